@@ -22,7 +22,7 @@ use Rattle.book_core.specs.Account.{colon, IsInside, is_inside, reaches}
 use Rattle.book_core.specs.Book.{legs_of}
 use Rattle.book_core.specs.Claim.{Asserted, account_at, asserted_on, asserted_claims, asserted_from, reach_of}
 use Rattle.book_core.specs.DayLedger.{IsDayKept}
-use Rattle.book_core.specs.ClaimIndex.{spot_at, part_of, KeepsFound, AreFound, IsListed, AreListed}
+use Rattle.book_core.specs.ClaimIndex.{spot_at, index_part, KeepsFound, FindsEach, IsListed, AreListed}
 use Rattle.book_core.proofs.AccountLemmas.{is_inside_decides}
 use Rattle.book_core.proofs.BookLemmas.{legs_of-append}
 use Rattle.book_core.proofs.ClaimLemmas.{asserted_from-append, asserted_claims-append}
@@ -30,20 +30,20 @@ use Rattle.book_core.proofs.ClaimLemmas.{asserted_from-append, asserted_claims-a
 -- ---- what is found
 -- an assertion is found
 abbrev pub IsFound : ClaimIndex → Asserted → Type 0
-IsFound index x = Contains (spots_of (part_of (reach_of x.claim.kind) index) x.account) (spot_at x.place)
+IsFound index x = Contains (spots_of (index_part (reach_of x.claim.kind) index) x.account) (spot_at x.place)
 
-pub found_kept : (old new : ClaimIndex) (xs : List Asserted) → KeepsFound old new → AreFound old xs → AreFound new xs
+pub found_kept : (old new : ClaimIndex) (xs : List Asserted) → KeepsFound old new → FindsEach old xs → FindsEach new xs
 found_kept old new xs kept h x k = kept (reach_of x.claim.kind) x.account (spot_at x.place) (h x k)
 
-found_append : (index : ClaimIndex) (xs ys : List Asserted) → AreFound index xs → AreFound index ys
-    → AreFound index (xs ++ ys)
+found_append : (index : ClaimIndex) (xs ys : List Asserted) → FindsEach index xs → FindsEach index ys
+    → FindsEach index (xs ++ ys)
 found_append index xs ys h k x m = by_case (Contains-append_cases xs ys x m)
   where
     by_case : Contains xs x ⊎ Contains ys x → IsFound index x
     by_case (inl a) = h x a
     by_case (inr b) = k x b
 
-found_one : (index : ClaimIndex) (x : Asserted) → IsFound index x → AreFound index (x ∷ [])
+found_one : (index : ClaimIndex) (x : Asserted) → IsFound index x → FindsEach index (x ∷ [])
 found_one index x h y k = by_case (Contains-push_cases [] x y k)
   where
     by_case : Contains [] y ⊎ (x ≡ y) → IsFound index y
@@ -64,35 +64,35 @@ kept_inside index now h Inside = h
 -- one more assertion of an entry
 pub found_more : (old new : ClaimIndex) (day : Day) (n : ℕ) (legs : List Leg) (claims : List Placed) (i : ℕ)
     (d : Placed) (account : List ℕ) → i < length claims → KeepsFound old new
-    → AreFound old (asserted_claims day n legs (take i claims)) → account ≡ account_at legs (get_or claims i d).leg →
-    Contains (spots_of (part_of (reach_of (get_or claims i d).claim.kind) new) account)
+    → FindsEach old (asserted_claims day n legs (take i claims)) → account ≡ account_at legs (get_or claims i d).leg →
+    Contains (spots_of (index_part (reach_of (get_or claims i d).claim.kind) new) account)
     (record { day = day; number = n; part = (get_or claims i d).leg })
-    → AreFound new (asserted_claims day n legs (take (i + 1) claims))
+    → FindsEach new (asserted_claims day n legs (take (i + 1) claims))
 found_more old new day n legs claims i d account l kept h named put =
     let x = asserted_on day n legs (get_or claims i d) in
-    subst (AreFound new) (sym (ap (asserted_claims day n legs) (take_more claims i d l) ∙ asserted_claims-append day n
+    subst (FindsEach new) (sym (ap (asserted_claims day n legs) (take_more claims i d l) ∙ asserted_claims-append day n
     legs (take i claims) (get_or claims i d ∷ [])))
     (found_append new (asserted_claims day n legs (take i claims)) (asserted_claims day n legs (get_or claims i d ∷ []))
     (found_kept old new (asserted_claims day n legs (take i claims)) kept h)
     (found_one new x (subst (λ (a : List ℕ).
-    Contains (spots_of (part_of (reach_of x.claim.kind) new) a) (spot_at x.place)) named put)))
+    Contains (spots_of (index_part (reach_of x.claim.kind) new) a) (spot_at x.place)) named put)))
 
 pub found_all : (index : ClaimIndex) (day : Day) (n : ℕ) (legs : List Leg) (items claims : List Placed) (i : ℕ)
-    → items ≡ claims → length items ≤ i → AreFound index (asserted_claims day n legs (take i items))
-    → AreFound index (asserted_claims day n legs claims)
+    → items ≡ claims → length items ≤ i → FindsEach index (asserted_claims day n legs (take i items))
+    → FindsEach index (asserted_claims day n legs claims)
 found_all index day n legs items claims i e l h =
-    subst (λ (xs : List Placed). AreFound index (asserted_claims day n legs xs)) (take_all i items l ∙ e) h
+    subst (λ (xs : List Placed). FindsEach index (asserted_claims day n legs xs)) (take_all i items l ∙ e) h
 
 -- one more entry
 pub found_add : (index : ClaimIndex) (es more : List Entry) (e : Entry) (n : ℕ) → more ≡ es ++ e ∷ []
-    → n ≡ length es + 1 → AreFound index (asserted_from 1 es) → AreFound index (asserted_claims e.day n e.legs e.claims)
-    → AreFound index (asserted_from 1 more)
+    → n ≡ length es + 1 → FindsEach index (asserted_from 1 es)
+    → FindsEach index (asserted_claims e.day n e.legs e.claims) → FindsEach index (asserted_from 1 more)
 found_add index es more e n d f h k =
-    subst (λ (bs : List Entry). AreFound index (asserted_from 1 bs)) (sym d)
-    (subst (AreFound index) (sym (asserted_from-append 1 es (e ∷ [])))
+    subst (λ (bs : List Entry). FindsEach index (asserted_from 1 bs)) (sym d)
+    (subst (FindsEach index) (sym (asserted_from-append 1 es (e ∷ [])))
     (found_append index (asserted_from 1 es) (asserted_from (length es + 1) (e ∷ [])) h
     (found_append index (asserted_claims e.day (length es + 1) e.legs e.claims) []
-    (subst (λ (m : ℕ). AreFound index (asserted_claims e.day m e.legs e.claims)) f k)
+    (subst (λ (m : ℕ). FindsEach index (asserted_claims e.day m e.legs e.claims)) f k)
     (λ x m. absurd (omega (arith, m.1))))))
 
 -- more may be found of the same entries and accounts

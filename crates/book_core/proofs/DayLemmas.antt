@@ -10,7 +10,7 @@ use Rattle.day_sums.specs.declared.sums.DaySums.{DaySums}
 use Rattle.day_sums.specs.declared.period.Period.{Period}
 use Rattle.day_sums.specs.declared.period.Period.TheVariants.{Through}
 use Rattle.day_sums.specs.Period.{is_in}
-use Rattle.day_sums.specs.Sums.{sum_of, SameSums}
+use Rattle.day_sums.specs.Sums.{period_sum, SameSums}
 use Rattle.book_core.specs.declared.leg.Leg.{Leg}
 use Rattle.book_core.specs.declared.entry.Entry.{Entry}
 use Rattle.book_core.specs.declared.account.Reach.{Reach}
@@ -101,12 +101,12 @@ pub sums_same : (reach : Reach) (old now : DaySums) (b : List Entry) → AreSums
 sums_same reach old now b sums same a u p = same.sums a u p ∙ sums a u p
 
 pub sums_none : (reach : Reach) (rows : DaySums)
-    → ((a : List ℕ) (u : Commodity) (p : Period) → sum_of rows a u p ≡ pos 0) → AreSums reach rows []
+    → ((a : List ℕ) (u : Commodity) (p : Period) → period_sum rows a u p ≡ pos 0) → AreSums reach rows []
 sums_none reach rows e = e
 
 -- through a day: the balance
 pub balance_through : (reach : Reach) (rows : DaySums) (b : List Entry) (a : List ℕ) (u : Commodity) (l : Until)
-    (d : Day) → AreSums reach rows b → l ≡ ThroughDay d → sum_of rows a u (Through d) ≡ balance reach b a u l
+    (d : Day) → AreSums reach rows b → l ≡ ThroughDay d → period_sum rows a u (Through d) ≡ balance reach b a u l
 unfolding balance
 balance_through reach rows b a u l d sums e = sums a u (Through d) ∙ sym (ap (balance reach b a u) e)
 

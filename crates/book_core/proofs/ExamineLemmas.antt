@@ -21,7 +21,7 @@ use Rattle.book_core.specs.declared.entry.Entry.{Entry}
 use Rattle.book_core.specs.declared.refusal.Failure.{Failure}
 use Rattle.book_core.specs.Place.{place_le, place_cmp}
 use Rattle.book_core.specs.Claim.{Asserted, account_at, asserted_claims, asserted_from, fault, first_fault}
-use Rattle.book_core.specs.Examine.{same_place, is_listed, listed, examined, ArePlaces}
+use Rattle.book_core.specs.Examine.{same_place, is_listed, assertions_at, examined, ArePlaces}
 use Rattle.book_core.specs.GoodBook.{AreApart, IsFit}
 use Rattle.book_core.proofs.ClaimLemmas.{places_total}
 use Rattle.book_core.proofs.HoldLemmas.{Leads, first_fault_leads, all_hold, fault_reads}
@@ -235,7 +235,7 @@ pub first_fails : (b : List Entry) (places : List Place) (i : ℕ) (p : Place) (
     ((x : Asserted) → Contains (asserted_from 1 b) x → x.place ≡ p → result ≡ fault b x) → result ≡ Some f
     → result ≡ examined b places
 unfolding examined
-first_fails b places i p result f are l g held says e = by_first (first_fault b (listed places b)) refl
+first_fails b places i p result f are l g held says e = by_first (first_fault b (assertions_at places b)) refl
   where
     in_places : Contains places p
     in_places = (i, l, sym g)
@@ -243,14 +243,14 @@ first_fails b places i p result f are l g held says e = by_first (first_fault b 
     some : (x : Asserted) × Contains (asserted_from 1 b) x × (x.place ≡ p)
     some = are.claims p in_places
 
-    in_list : Contains (listed places b) some.0
+    in_list : Contains (assertions_at places b) some.0
     in_list = in_filter (is_listed places) (asserted_from 1 b) some.0 some.1
         (in_listed places some.0 (subst (Contains places) (sym some.2) in_places))
 
     fails : fault b some.0 ≡ Some f
     fails = sym (says some.0 some.1 some.2) ∙ e
 
-    by_lead : (h : Failure) → Leads b (listed places b) h → Some f ≡ Some h
+    by_lead : (h : Failure) → Leads b (assertions_at places b) h → Some f ≡ Some h
     by_lead h lead = by_place (cases_lt k i) (cases_lt i k)
       where
         z : Asserted
@@ -284,26 +284,28 @@ first_fails b places i p result f are l g held says e = by_first (first_fault b 
             ap (λ (q : Place). place_le q some.0.place) at ∙ ap (place_le z.place) some.2 ∙ down in
             absurd (let w = lead.before some.0 in_list early in let v = fails in cc)
 
-    by_first : (o : Option Failure) → first_fault b (listed places b) ≡ o → result ≡ first_fault b (listed places b)
+    by_first : (o : Option Failure) → first_fault b (assertions_at places b) ≡ o
+        → result ≡ first_fault b (assertions_at places b)
     by_first None h = absurd (let w =
-        All-contains (λ (y : Asserted). fault b y ≡ None) (listed places b) some.0
-        (All-from_recursion (λ (y : Asserted). fault b y ≡ None) (listed places b) (all_hold b (listed places b) h))
+        All-contains (λ (y : Asserted). fault b y ≡ None) (assertions_at places b) some.0
+        (All-from_recursion (λ (y : Asserted). fault b y ≡ None) (assertions_at places b)
+        (all_hold b (assertions_at places b) h))
         in_list in let v = fails in cc)
-    by_first (Some h) m = e ∙ by_lead h (first_fault_leads b (listed places b) h m) ∙ sym m
+    by_first (Some h) m = e ∙ by_lead h (first_fault_leads b (assertions_at places b) h m) ∙ sym m
 
 -- none fails
 pub none_fails : (b : List Entry) (places : List Place) (i : ℕ) → length places ≤ i → HoldBefore b places i
     → None ≡ examined b places
 unfolding examined
-none_fails b places i l held = sym (by_list (listed places b) (λ y h. h))
+none_fails b places i l held = sym (by_list (assertions_at places b) (λ y h. h))
   where
-    holds : (y : Asserted) → Contains (listed places b) y → fault b y ≡ None
+    holds : (y : Asserted) → Contains (assertions_at places b) y → fault b y ≡ None
     holds y h =
         let both = filter_in (is_listed places) (asserted_from 1 b) y h in
         let there = listed_in places y both.1 in
         held y there.0 (omega (arith, there.1)) both.0 (sym there.2)
 
-    by_list : (xs : List Asserted) → ((y : Asserted) → Contains xs y → Contains (listed places b) y)
+    by_list : (xs : List Asserted) → ((y : Asserted) → Contains xs y → Contains (assertions_at places b) y)
         → first_fault b xs ≡ None
     by_list [] h = refl
     by_list (x ∷ xs) h = rw (holds x (h x (head_in x xs)), by_list xs (λ y k. h y (tail_in x y xs k))) refl

@@ -20,7 +20,8 @@ use Rattle.book_core.specs.declared.place.Until.TheVariants.{At}
 use Rattle.book_core.specs.Place.{place_le}
 use Rattle.book_core.specs.Book.{legs_of}
 use Rattle.book_core.specs.Balance.{balance, turnover}
-use Rattle.book_core.specs.Claim.{reach_of, is_sole, differs, is_over_zero, is_stray, least_unit, stray, judged, fault}
+use Rattle.book_core.specs.Claim.{reach_of, is_sole, differs, is_over_zero, is_stray, least_unit, stray, claim_failure}
+use Rattle.book_core.specs.Claim.{fault}
 use Rattle.book_core.specs.Claim.{earlier, first_fault, asserted_from, failure, Holds, FailsInOwn, FailsInOther}
 use Rattle.book_core.specs.Claim.{IsFirstFailure}
 use Rattle.book_core.proofs.SumLemmas.{Within, within_entries}
@@ -98,7 +99,7 @@ holds_none b x h = by_test (is_sole x.claim.kind) refl
         sym (fault_plain b x (balance (reach_of x.claim.kind) b x.account x.claim.unit (At x.place)) refl h.same e)
 
 judged_none : (x : Asserted) (found : ℤ) (other : Option Commodity) (amounts : Commodity → ℤ)
-    → judged x found other amounts ≡ None → (found ≡ x.claim.qty) × (is_sole x.claim.kind ≡ true → other ≡ None)
+    → claim_failure x found other amounts ≡ None → (found ≡ x.claim.qty) × (is_sole x.claim.kind ≡ true → other ≡ None)
 judged_none x found other amounts h = by_test (int_eq found x.claim.qty) refl h
   where
     by_sole : (t : Bool) → option_map (λ (v : Commodity). is_over_zero x v (amounts v)) (if t then other else None)
@@ -156,7 +157,7 @@ failure_none b =
 
 -- how a judgement that fails reads
 judged_some : (x : Asserted) (found : ℤ) (other : Option Commodity) (amounts : Commodity → ℤ) (f : Failure)
-    → judged x found other amounts ≡ Some f →
+    → claim_failure x found other amounts ≡ Some f →
     ((found ≡ x.claim.qty → ⊥) × (differs x found ≡ f))
     ⊎ ((found ≡ x.claim.qty) × (is_sole x.claim.kind ≡ true)
     × ((v : Commodity) × (other ≡ Some v) × (is_over_zero x v (amounts v) ≡ f)))

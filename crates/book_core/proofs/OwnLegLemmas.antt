@@ -12,7 +12,7 @@ use Rattle.money_core.specs.declared.unit.Unit.{Unit as Commodity}
 use Rattle.money_core.specs.declared.day.Day.{Day}
 use Rattle.day_sums.specs.declared.sums.DaySums.{DaySums}
 use Rattle.day_sums.specs.declared.period.Period.TheVariants.{Before, Within}
-use Rattle.day_sums.specs.Sums.{sum_of, SameSums}
+use Rattle.day_sums.specs.Sums.{period_sum, SameSums}
 use Rattle.book_core.specs.declared.leg.Leg.{Leg}
 use Rattle.book_core.specs.declared.place.Place.{Place}
 use Rattle.book_core.specs.declared.entry.Entry.{Entry}
@@ -147,7 +147,7 @@ up_to reach a u day n l len k (x ∷ xs) h =
 
 pub sum_up_to : (rows : DaySums) (a : List ℕ) (u : Commodity) (day : Day) (n l : ℕ) (legs : List Leg)
     → AreSums Own rows (singles day legs) →
-    sum_of rows a u (Within day (min l (length legs)))
+    period_sum rows a u (Within day (min l (length legs)))
     ≡ total (counts Own a u (At (record { day = day; entry = n; leg = l }))) (posted_legs day n 1 legs)
 sum_up_to rows a u day n l legs sums =
     sums a u (Within day (min l (length legs))) ∙ up_to Own a u day n l (length legs) 1 legs (omega arith)
@@ -225,7 +225,7 @@ module _ (reach : Reach) (a : List ℕ) (u : Commodity) (p : Place) where
 pub balance_own : (own : OwnLegs) (b : List Entry) (a : List ℕ) (u : Commodity) (p : Place) → AreOwnIn own b
     → p.entry ≡ own.number → p.day.0 ≡ own.day.0 →
     balance Own b a u (At p)
-    ≡ balance Own b a u (At (start p)) +ℤ sum_of own.rows a u (Within own.day (min p.leg own.count))
+    ≡ balance Own b a u (At (start p)) +ℤ period_sum own.rows a u (Within own.day (min p.leg own.count))
 balance_own own b a u p h number day =
     balance_start Own a u p b h.index h.entry h.low h.is (omega (arith, number, h.number))
     ((Decides-int_eq h.entry.day.0 p.day.0).1 (sym on_day))
@@ -237,12 +237,12 @@ balance_own own b a u p h number day =
     same : p ≡ record { day = h.entry.day; entry = p.entry; leg = p.leg }
     same = ap (λ (d : ℤ). let w : Place = record { day = record { 0 = d }; entry = p.entry; leg = p.leg } in w) on_day
 
-    sums : sum_of own.rows a u (Within own.day (min p.leg own.count))
-        ≡ sum_of own.rows a u (Within h.entry.day (min p.leg (length h.entry.legs)))
-    sums = ap (λ (d : Day). sum_of own.rows a u (Within d (min p.leg own.count))) h.legs.day
-        ∙ ap (λ (n : ℕ). sum_of own.rows a u (Within h.entry.day (min p.leg n))) h.legs.count
+    sums : period_sum own.rows a u (Within own.day (min p.leg own.count))
+        ≡ period_sum own.rows a u (Within h.entry.day (min p.leg (length h.entry.legs)))
+    sums = ap (λ (d : Day). period_sum own.rows a u (Within d (min p.leg own.count))) h.legs.day
+        ∙ ap (λ (n : ℕ). period_sum own.rows a u (Within h.entry.day (min p.leg n))) h.legs.count
 
-    legs : sum_of own.rows a u (Within h.entry.day (min p.leg (length h.entry.legs)))
+    legs : period_sum own.rows a u (Within h.entry.day (min p.leg (length h.entry.legs)))
         ≡ total (counts Own a u (At p)) (posted_legs h.entry.day p.entry 1 h.entry.legs)
     legs = sum_up_to own.rows a u h.entry.day p.entry p.leg h.entry.legs h.legs.sums
         ∙ ap (λ (q : Place). total (counts Own a u (At q)) (posted_legs h.entry.day p.entry 1 h.entry.legs)) (sym same)

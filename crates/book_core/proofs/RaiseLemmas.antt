@@ -15,7 +15,7 @@ use Rattle.money_core.proofs.ListLemmas.{drop_at}
 use Rattle.day_sums.specs.declared.sums.DaySums.{DaySums}
 use Rattle.day_sums.specs.declared.period.Period.{Period}
 use Rattle.day_sums.specs.Period.{is_in}
-use Rattle.day_sums.specs.Sums.{sum_of, is_open, share_of, SameSums, RaisedSums, IsSmall}
+use Rattle.day_sums.specs.Sums.{period_sum, is_open, share_of, SameSums, RaisedSums, IsSmall}
 use Rattle.day_sums.specs.Points.{IsUpTo}
 use Rattle.book_core.specs.declared.leg.Leg.{Leg}
 use Rattle.book_core.specs.declared.account.Reach.{Reach}
@@ -212,7 +212,7 @@ part unit front on q = if (unit && front) && on then q else pos 0
 pub record RaisedFronts (name : List ℕ) (unit : Commodity) (day : Day) (n : ℕ) (q : ℤ) (i : ℕ)
     (old now : DaySums) : Type 0 where
   pub sums : (a : List ℕ) (u : Commodity) (p : Period)
-      → sum_of now a u p ≡ sum_of old a u p +ℤ part (nat_eq unit.0 u.0) (is_front i name a) (is_in p day n) q
+      → period_sum now a u p ≡ period_sum old a u p +ℤ part (nat_eq unit.0 u.0) (is_front i name a) (is_in p day n) q
   pub opened : (a : List ℕ) (u : Commodity) (d : Day) (k : ℕ) → is_open old a u d k ≡ true → is_open now a u d k ≡ true
 
 two_parts : (unit front new on : Bool) (q z : ℤ) → (new ≡ true → front ≡ false)
@@ -227,12 +227,13 @@ pub raised_none : (name : List ℕ) (unit : Commodity) (day : Day) (n : ℕ) (q 
 raised_none name unit day n q rows = record { sums = none; opened = λ a u d k h. h }
   where
     none : (a : List ℕ) (u : Commodity) (p : Period)
-        → sum_of rows a u p ≡ sum_of rows a u p +ℤ part (nat_eq unit.0 u.0) (is_front 0 name a) (is_in p day n) q
+        → period_sum rows a u p ≡ period_sum rows a u p +ℤ part (nat_eq unit.0 u.0) (is_front 0 name a) (is_in p day n)
+        q
     none a u p =
         let l : nat_lt (length a) 0 ≡ false = grind (arith, nat_tests) in
         by_unit (nat_eq unit.0 u.0) (is_front 0 name a) (rw l refl)
       where
-        by_unit : (t f : Bool) → f ≡ false → sum_of rows a u p ≡ sum_of rows a u p +ℤ part t f (is_in p day n) q
+        by_unit : (t f : Bool) → f ≡ false → period_sum rows a u p ≡ period_sum rows a u p +ℤ part t f (is_in p day n) q
         by_unit true true e = absurd (cc)
         by_unit true false e = omega (arith, ints)
         by_unit false f e = omega (arith, ints)
@@ -243,9 +244,9 @@ pub raised_colon : (name : List ℕ) (unit : Commodity) (day : Day) (n : ℕ) (q
 raised_colon name unit day n q i old mid now h e k m = record {
   sums = λ a u p.
       m.sums a u p ∙ ap (λ (z : ℤ). z +ℤ share_of (take i name) unit day n q a u p) (k.sums a u p) ∙ two_parts
-      (nat_eq unit.0 u.0) (is_front i name a) (bytes_eq (take i name) a) (is_in p day n) q (sum_of old a u p)
+      (nat_eq unit.0 u.0) (is_front i name a) (bytes_eq (take i name) a) (is_in p day n) q (period_sum old a u p)
       (front_colon name a i h e).1
-      ∙ ap (λ (t : Bool). sum_of old a u p +ℤ part (nat_eq unit.0 u.0) t (is_in p day n) q)
+      ∙ ap (λ (t : Bool). period_sum old a u p +ℤ part (nat_eq unit.0 u.0) t (is_in p day n) q)
       (sym (front_colon name a i h e).0);
   opened = λ a u d j g. m.opened a u d j (k.opened a u d j g);
 }
@@ -254,7 +255,7 @@ pub raised_other : (name : List ℕ) (unit : Commodity) (day : Day) (n : ℕ) (q
     → (get_or name i 0 ≡ colon → ⊥) → RaisedFronts name unit day n q i old now
     → RaisedFronts name unit day n q (i + 1) old now
 raised_other name unit day n q i old now h k = record {
-  sums = λ a u p. k.sums a u p ∙ ap (λ (t : Bool). sum_of old a u p +ℤ part (nat_eq unit.0 u.0) t (is_in p day n) q)
+  sums = λ a u p. k.sums a u p ∙ ap (λ (t : Bool). period_sum old a u p +ℤ part (nat_eq unit.0 u.0) t (is_in p day n) q)
       (sym (front_other name a i h));
   opened = k.opened;
 }
@@ -265,9 +266,9 @@ pub raised_all : (name : List ℕ) (unit : Commodity) (day : Day) (n : ℕ) (q :
 raised_all name unit day n q i old mid now h k m = record {
   sums = λ a u p.
       m.sums a u p ∙ ap (λ (z : ℤ). z +ℤ share_of name unit day n q a u p) (k.sums a u p) ∙ two_parts
-      (nat_eq unit.0 u.0) (is_front i name a) (bytes_eq name a) (is_in p day n) q (sum_of old a u p)
+      (nat_eq unit.0 u.0) (is_front i name a) (bytes_eq name a) (is_in p day n) q (period_sum old a u p)
       (front_all name a i h).1
-      ∙ ap (λ (t : Bool). sum_of old a u p +ℤ part (nat_eq unit.0 u.0) t (is_in p day n) q)
+      ∙ ap (λ (t : Bool). period_sum old a u p +ℤ part (nat_eq unit.0 u.0) t (is_in p day n) q)
       (sym (front_all name a i h).0);
   opened = λ a u d j g. m.opened a u d j (k.opened a u d j g);
 }
@@ -275,11 +276,11 @@ raised_all name unit day n q i old mid now h k m = record {
 -- what is still to be raised has its old sums
 pub small_front : (name : List ℕ) (unit : Commodity) (day : Day) (n : ℕ) (q : ℤ) (i : ℕ) (old now : DaySums)
     (a : List ℕ) → is_front i name a ≡ false → RaisedFronts name unit day n q i old now
-    → ((b : List ℕ) (p : Period) → IsSmall (sum_of old b unit p)) → (p : Period) → IsSmall (sum_of now a unit p)
+    → ((b : List ℕ) (p : Period) → IsSmall (period_sum old b unit p)) → (p : Period) → IsSmall (period_sum now a unit p)
 small_front name unit day n q i old now a e k small p =
     subst IsSmall (sym (k.sums a unit p ∙ by_unit (nat_eq unit.0 unit.0) (is_front i name a) e)) (small a p)
   where
-    by_unit : (t f : Bool) → f ≡ false → sum_of old a unit p +ℤ part t f (is_in p day n) q ≡ sum_of old a unit p
+    by_unit : (t f : Bool) → f ≡ false → period_sum old a unit p +ℤ part t f (is_in p day n) q ≡ period_sum old a unit p
     by_unit true true g = absurd (cc)
     by_unit true false g = omega (arith, ints)
     by_unit false f g = omega (arith, ints)
@@ -326,16 +327,16 @@ moved_own x rest = let t : nat_eq x.unit.0 x.unit.0 ≡ true = grind (arith, nat
 pub record Adding (reach : Reach) (legs : List Leg) (day : Day) (n : ℕ) (i : ℕ) (old now : DaySums) : Type 0 where
   pub room : HasRoomFor now (drop i legs)
   pub sums : (a : List ℕ) (u : Commodity) (p : Period)
-      → sum_of now a u p +ℤ (if is_in p day n then sum_in reach a u (drop i legs) else pos 0)
-      ≡ sum_of old a u p +ℤ (if is_in p day n then sum_in reach a u legs else pos 0)
+      → period_sum now a u p +ℤ (if is_in p day n then sum_in reach a u (drop i legs) else pos 0)
+      ≡ period_sum old a u p +ℤ (if is_in p day n then sum_in reach a u legs else pos 0)
 
 pub adding_none : (reach : Reach) (legs : List Leg) (day : Day) (n : ℕ) (rows : DaySums) → HasRoomFor rows legs
     → Adding reach legs day n 0 rows rows
 adding_none reach legs day n rows h = record { room = h; sums = λ a u p. refl }
 
 pub adding_small : (reach : Reach) (legs : List Leg) (day : Day) (n : ℕ) (i : ℕ) (old now : DaySums)
-    → Adding reach legs day n i old now → (a : List ℕ) (u : Commodity) (p : Period) → IsSmall (sum_of now a u p)
-adding_small reach legs day n i old now h a u p = upto_small _ (sum_of now a u p) (h.room.sums a u p) (omega arith)
+    → Adding reach legs day n i old now → (a : List ℕ) (u : Commodity) (p : Period) → IsSmall (period_sum now a u p)
+adding_small reach legs day n i old now h a u p = upto_small _ (period_sum now a u p) (h.room.sums a u p) (omega arith)
 
 pub adding_qty : (reach : Reach) (legs : List Leg) (day : Day) (n : ℕ) (i : ℕ) (x : Leg) (old now : DaySums)
     → Adding reach legs day n i old now → i < length legs → x ≡ get_or legs i x → IsSmall x.qty
@@ -353,17 +354,18 @@ pub adding_more : (reach : Reach) (legs : List Leg) (day : Day) (n : ℕ) (i : �
 adding_more reach legs day n i x old mid now l e h k = record {
   room = record {
     sums = λ a u p. subst (IsUpTo (most_turnover - moved u rest)) (sym (k.sums a u p))
-        (one_up (nat_eq x.unit.0 u.0) (reaches reach a x.account) (is_in p day n) (moved u rest) (sum_of mid a u p)
+        (one_up (nat_eq x.unit.0 u.0) (reaches reach a x.account) (is_in p day n) (moved u rest) (period_sum mid a u p)
         (subst (λ (ls : List Leg). moved u ls ≤ most_turnover) parts (h.room.legs_small u))
-        (subst (λ (ls : List Leg). IsUpTo (most_turnover - moved u ls) (sum_of mid a u p)) parts (h.room.sums a u p)));
+        (subst (λ (ls : List Leg). IsUpTo (most_turnover - moved u ls) (period_sum mid a u p)) parts
+        (h.room.sums a u p)));
     legs_small = λ u. omega (arith, h.room.legs_small u, ap (moved u) parts);
   };
   sums = λ a u p.
       ap (λ (z : ℤ). z +ℤ (if is_in p day n then sum_in reach a u rest else pos 0)) (k.sums a u p)
-      ∙ join (nat_eq x.unit.0 u.0 && reaches reach a x.account) (is_in p day n) (sum_of mid a u p)
+      ∙ join (nat_eq x.unit.0 u.0 && reaches reach a x.account) (is_in p day n) (period_sum mid a u p)
       (sum_in reach a u rest)
-      ∙ ap (λ (ls : List Leg). sum_of mid a u p +ℤ (if is_in p day n then sum_in reach a u ls else pos 0)) (sym parts)
-      ∙ h.sums a u p;
+      ∙ ap (λ (ls : List Leg). period_sum mid a u p +ℤ (if is_in p day n then sum_in reach a u ls else pos 0))
+      (sym parts) ∙ h.sums a u p;
 }
   where
     rest : List Leg
@@ -393,7 +395,7 @@ adding_more reach legs day n i x old mid now l e h k = record {
 pub adding_all : (reach : Reach) (legs : List Leg) (day : Day) (n : ℕ) (i : ℕ) (old now : DaySums) → length legs ≤ i
     → Adding reach legs day n i old now → AreRaised reach legs day n old now
 adding_all reach legs day n i old now h k a u p =
-    by_day (is_in p day n) (sum_of now a u p) (sum_in reach a u (drop i legs)) none ∙ k.sums a u p
+    by_day (is_in p day n) (period_sum now a u p) (sum_in reach a u (drop i legs)) none ∙ k.sums a u p
   where
     past : (xs : List Leg) (j : ℕ) → length xs ≤ j → drop j xs ≡ []
     past [] zero l = refl

@@ -25,7 +25,7 @@ use Rattle.book_core.specs.declared.claim_index.ClaimIndex.{ClaimIndex}
 use Rattle.book_core.specs.Account.{reaches}
 use Rattle.book_core.specs.Book.{Posted, legs_of, posted_legs, posted_from}
 use Rattle.book_core.specs.Claim.{Asserted, asserted_claims, asserted_from, reach_of, is_sole}
-use Rattle.book_core.specs.ClaimIndex.{spot_at, part_of, AreFound, AreListed}
+use Rattle.book_core.specs.ClaimIndex.{spot_at, index_part, FindsEach, AreListed}
 use Rattle.book_core.specs.Gathered.{IsReachedAt, AreReachedAt, HasReached}
 use Rattle.book_core.specs.Reached.{place_lt, touches, is_touched, is_reached}
 use Rattle.book_core.proofs.ClaimIndexLemmas.{row_there}
@@ -204,8 +204,8 @@ posted_entry least n (e ∷ es) y all h =
 -- every assertion of a reach that is touched is at a spot after the first day, in the row of an account of which the
 -- reach takes in one of the legs
 pub touched_place : (reach : Reach) (b e : List Entry) (index : ClaimIndex) (part : NamedSpots) (rows : List ℕ)
-    (least : Day) (places : List Place) → part ≡ part_of reach index
-    → AreFound index (asserted_from 1 b) → AllByRecursion (λ (d : Entry). least.0 ≤ℤ d.day.0) e
+    (least : Day) (places : List Place) → part ≡ index_part reach index
+    → FindsEach index (asserted_from 1 b) → AllByRecursion (λ (d : Entry). least.0 ≤ℤ d.day.0) e
     → AreListed reach rows part (legs_of e) →
     ((n : ℕ) → Contains rows n → HasReached b e (filter (is_behind least) (spots_in part n)) places) → (x : Asserted)
     → Contains (asserted_from 1 b) x → reach_of x.claim.kind ≡ reach → is_reached b e x ≡ true
@@ -221,7 +221,7 @@ touched_place reach b e index part rows least places same found first listed all
     (reaches (reach_of x.claim.kind) x.account y.leg.account) parts.1 in
     let there : Contains (spots_of part x.account) (spot_at x.place) =
     subst (λ (i : NamedSpots). Contains (spots_of i x.account) (spot_at x.place)) (sym same)
-    (subst (λ (r : Reach). Contains (spots_of (part_of r index) x.account) (spot_at x.place)) looks (found x h)) in
+    (subst (λ (r : Reach). Contains (spots_of (index_part r index) x.account) (spot_at x.place)) looks (found x h)) in
     let r = row_there rows part x.account (spot_at x.place)
     (listed y.leg p.2 x.account
     (subst (λ (r : Reach). reaches r x.account y.leg.account ≡ true) looks asked.1)) there in

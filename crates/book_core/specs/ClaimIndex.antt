@@ -16,18 +16,18 @@ abbrev pub spot_at : Place → Spot
 spot_at p = record { day = p.day; number = p.entry; part = p.leg }
 
 -- the part for assertions of a reach
-abbrev pub part_of : Reach → ClaimIndex → NamedSpots
-part_of Own index = index.own
-part_of Inside index = index.inside
+abbrev pub index_part : Reach → ClaimIndex → NamedSpots
+index_part Own index = index.own
+index_part Inside index = index.inside
 
 -- no account loses a spot in either part
 abbrev pub KeepsFound : ClaimIndex → ClaimIndex → Type 0
-KeepsFound old new = (r : Reach) → KeepsSpots (part_of r old) (part_of r new)
+KeepsFound old new = (r : Reach) → KeepsSpots (index_part r old) (index_part r new)
 
 -- each assertion is found under its account, in the part for its reach; what else is there says nothing
-abbrev pub AreFound : ClaimIndex → List Asserted → Type 0
-AreFound index xs = (x : Asserted) → Contains xs x
-    → Contains (spots_of (part_of (reach_of x.claim.kind) index) x.account) (spot_at x.place)
+abbrev pub FindsEach : ClaimIndex → List Asserted → Type 0
+FindsEach index xs = (x : Asserted) → Contains xs x
+    → Contains (spots_of (index_part (reach_of x.claim.kind) index) x.account) (spot_at x.place)
 
 -- the account's row is among these, where it has one
 abbrev pub IsListed : List ℕ → NamedSpots → List ℕ → Type 0

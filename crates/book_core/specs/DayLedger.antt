@@ -4,12 +4,12 @@ use Rattle.std.specs.List.{AllByRecursion}
 use Rattle.book_core.specs.declared.claim_index.ClaimIndex.{ClaimIndex}
 use Rattle.book_core.specs.declared.entry.Entry.{Entry}
 use Rattle.book_core.specs.Claim.{asserted_from}
-use Rattle.book_core.specs.ClaimIndex.{AreFound}
+use Rattle.book_core.specs.ClaimIndex.{FindsEach}
 use Rattle.book_core.specs.GoodBook.{IsFit}
-use Rattle.book_core.specs.PlainLedger.{IsKept}
+use Rattle.book_core.specs.PlainLedger.{IsPlainLedger}
 
 -- as the plain ledger; the entries are fit, and their assertions are found by account
 pub record IsDayKept (entries : List Entry) (names : List (List ℕ)) (claims : ClaimIndex) : Type 0 where
-  pub kept : IsKept entries names
+  pub kept : IsPlainLedger entries names
   pub fit : AllByRecursion IsFit entries
-  pub found : AreFound claims (asserted_from 1 entries)
+  pub found : FindsEach claims (asserted_from 1 entries)

@@ -6,7 +6,7 @@ use Rattle.money_core.specs.declared.day.Day.{Day}
 use Rattle.day_sums.specs.declared.sums.DaySums.{DaySums}
 use Rattle.day_sums.specs.declared.period.Period.{Period}
 use Rattle.day_sums.specs.Period.{is_in}
-use Rattle.day_sums.specs.Sums.{sum_of, is_open}
+use Rattle.day_sums.specs.Sums.{period_sum, is_open}
 use Rattle.day_sums.specs.Points.{IsUpTo}
 use Rattle.book_core.specs.declared.leg.Leg.{Leg}
 use Rattle.book_core.specs.declared.entry.Entry.{Entry}
@@ -26,7 +26,7 @@ counts_in reach account unit p x =
 -- the rows' sums over each period are those of the book's legs
 abbrev pub AreSums : Reach → DaySums → List Entry → Type 0
 AreSums reach rows b =
-    (a : List ℕ) (u : Commodity) (p : Period) → sum_of rows a u p ≡ total (counts_in reach a u p) (posted b)
+    (a : List ℕ) (u : Commodity) (p : Period) → period_sum rows a u p ≡ total (counts_in reach a u p) (posted b)
 
 -- the rows of the fronts of a name that end before one of its first i bytes, a colon, have the day's number n
 abbrev pub FrontsOpen : DaySums → List ℕ → Commodity → Day → ℕ → ℕ → Type 0
@@ -48,18 +48,18 @@ AreOpen reach rows (x ∷ xs) day n = IsOpen reach rows x.account x.unit day n �
 pub record Raised (reach : Reach) (name : List ℕ) (unit : Commodity) (day : Day) (n : ℕ) (q : ℤ)
     (old new : DaySums) : Type 0 where
   pub sums : (a : List ℕ) (u : Commodity) (p : Period)
-      → sum_of new a u p
-      ≡ sum_of old a u p +ℤ (if (nat_eq unit.0 u.0 && reaches reach a name) && is_in p day n then q else pos 0)
+      → period_sum new a u p
+      ≡ period_sum old a u p +ℤ (if (nat_eq unit.0 u.0 && reaches reach a name) && is_in p day n then q else pos 0)
   pub opened : (a : List ℕ) (u : Commodity) (d : Day) (k : ℕ) → is_open old a u d k ≡ true → is_open new a u d k ≡ true
 
 -- the sums are more by what the legs add over the periods that a day's number n is in
 abbrev pub AreRaised : Reach → List Leg → Day → ℕ → DaySums → DaySums → Type 0
 AreRaised reach legs day n old new = (a : List ℕ) (u : Commodity) (p : Period)
-    → sum_of new a u p ≡ sum_of old a u p +ℤ (if is_in p day n then sum_in reach a u legs else pos 0)
+    → period_sum new a u p ≡ period_sum old a u p +ℤ (if is_in p day n then sum_in reach a u legs else pos 0)
 
 -- no sum passes the limit once the legs are added
 pub record HasRoomFor (rows : DaySums) (legs : List Leg) : Type 0 where
-  pub sums : (a : List ℕ) (u : Commodity) (p : Period) → IsUpTo (most_turnover - moved u legs) (sum_of rows a u p)
+  pub sums : (a : List ℕ) (u : Commodity) (p : Period) → IsUpTo (most_turnover - moved u legs) (period_sum rows a u p)
   pub legs_small : (u : Commodity) → moved u legs ≤ most_turnover
 
 -- what a table of turnovers by commodity says; nothing stands for zero
@@ -71,8 +71,8 @@ abbrev pub AreMoved : List ℕ → List Entry → Type 0
 AreMoved table b = (u : Commodity) → moved_at table u ≡ turnover u b
 
 -- each leg's commodity is in the table
-abbrev pub AreListed : List ℕ → List Leg → Type 0
-AreListed table legs = AllByRecursion (λ (x : Leg). x.unit.0 < length table) legs
+abbrev pub AreUnitsInTable : List ℕ → List Leg → Type 0
+AreUnitsInTable table legs = AllByRecursion (λ (x : Leg). x.unit.0 < length table) legs
 
 -- the next commodity after one that has a turnover, or an earlier one; none where no later one has
 abbrev pub IsNextMoved : (Commodity → ℕ) → Commodity → Option Commodity → Type 0

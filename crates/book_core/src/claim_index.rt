@@ -7,7 +7,7 @@ ghost use Rattle.book_core.specs.declared.account.Reach.{Reach as Looks};
 ghost use Rattle.book_core.specs.Account.{is_inside, reaches};
 ghost use Rattle.book_core.specs.Book.{legs_of};
 ghost use Rattle.book_core.specs.Claim.{asserted_claims};
-ghost use Rattle.book_core.specs.ClaimIndex.{part_of, KeepsFound, AreFound, IsListed, AreListed};
+ghost use Rattle.book_core.specs.ClaimIndex.{index_part, KeepsFound, FindsEach, IsListed, AreListed};
 
 use crate::account::Reach;
 use crate::assertion::account_of;
@@ -29,7 +29,7 @@ pub struct ClaimIndex {
 impl ClaimIndex {
     /// That of no assertions.
     pub fn empty(alloc: Global) -> Self
-        ensures { (r : Looks) (a : List ℕ) → spots_of (part_of r result) a ≡ [] }
+        ensures { (r : Looks) (a : List ℕ) → spots_of (index_part r result) a ≡ [] }
     {
         ClaimIndex {
             own: NamedSpots::empty(alloc),
@@ -39,7 +39,7 @@ impl ClaimIndex {
 
     /// The part for the assertions of that reach.
     pub fn part(&self, reach: Reach) -> &NamedSpots
-        ensures { result.now ≡ part_of reach self.now }
+        ensures { result.now ≡ index_part reach self.now }
     {
         match reach {
             Reach::Own => &self.own,
@@ -50,7 +50,7 @@ impl ClaimIndex {
     /// Notes where an assertion of that reach stands. What was noted stays, also where memory is refused (40).
     fn put(&mut self, reach: Reach, account: &[u8], spot: Spot) -> Result<(), Cause>
         ensures kept { KeepsFound self.old self.new }
-        ensures put { OnOk result (Contains (spots_of (part_of reach self.new) account.now) spot) }
+        ensures put { OnOk result (Contains (spots_of (index_part reach self.new) account.now) spot) }
         ensures memory { IsOkUnless result Cause.OutOfMemory }
     {
         match reach {
@@ -63,7 +63,7 @@ impl ClaimIndex {
 /// Notes where the assertions of an entry stand. What was noted stays, also where memory is refused (40).
 pub fn put_claims(index: &mut ClaimIndex, entry: &Entry, number: usize) -> Result<(), Cause>
     ensures kept { KeepsFound index.old index.new }
-    ensures put { OnOk result (AreFound index.new
+    ensures put { OnOk result (FindsEach index.new
         (asserted_claims entry.now.day number entry.now.legs entry.now.claims)) }
     ensures memory { IsOkUnless result Cause.OutOfMemory }
 {

@@ -3,7 +3,7 @@
 
 ghost use Rattle.std.specs.Prelude.{◌≡◌, OnOk, ℕ, List};
 ghost use Rattle.day_sums.specs.declared.period.Period.{Period as Span};
-ghost use Rattle.day_sums.specs.Sums.{SameSums, IsSmall, sum_of};
+ghost use Rattle.day_sums.specs.Sums.{SameSums, IsSmall, period_sum};
 ghost use Rattle.book_core.specs.declared.account.Reach.TheVariants.{Inside};
 ghost use Rattle.book_core.specs.DayRows.{IsOpen, AreOpen, Raised, AreRaised, HasRoomFor};
 
@@ -76,7 +76,7 @@ pub fn open_legs(
 /// Adds to the sums of an account and of those above it from the day's number on, which is open there.
 fn raise_fronts(rows: &mut DaySums, account: &[u8], unit: Unit, day: Day, number: u32, qty: i64)
     requires open { IsOpen Inside rows.old account.now unit day number }
-    requires small { (a : List ℕ) (p : Span) → IsSmall (sum_of rows.old a unit p) }
+    requires small { (a : List ℕ) (p : Span) → IsSmall (period_sum rows.old a unit p) }
     requires qty { IsSmall qty }
     ensures { Raised Inside account.now unit day number qty rows.old rows.new }
 {
@@ -99,7 +99,7 @@ fn raise_account(
     qty: i64,
 )
     requires open { IsOpen reach rows.old account.now unit day number }
-    requires small { (a : List ℕ) (p : Span) → IsSmall (sum_of rows.old a unit p) }
+    requires small { (a : List ℕ) (p : Span) → IsSmall (period_sum rows.old a unit p) }
     requires qty { IsSmall qty }
     ensures { Raised reach account.now unit day number qty rows.old rows.new }
 {

@@ -4,7 +4,7 @@ ghost use Rattle.std.specs.Prelude.{◌≡◌, ◌+◌, ◌≤◌, ◌<◌, leng
 ghost use Rattle.std.specs.Result.{IsOkUnless};
 ghost use Rattle.money_core.specs.declared.unit.Unit.{Unit as Commodity};
 ghost use Rattle.day_sums.specs.declared.period.Period.TheVariants.{Within};
-ghost use Rattle.day_sums.specs.Sums.{sum_of};
+ghost use Rattle.day_sums.specs.Sums.{period_sum};
 ghost use Rattle.book_core.specs.declared.account.Reach.TheVariants.{Own};
 ghost use Rattle.book_core.specs.Balance.{moved};
 ghost use Rattle.book_core.specs.DayRows.{AreSums};
@@ -75,7 +75,7 @@ impl OwnLegs {
     /// What the legs up to that number add to the balance of an account in a commodity. Costs a search.
     pub fn sum_up_to(&self, account: &str, unit: Unit, leg: usize) -> i64
         requires { self.now.count ≤ most_entries }
-        ensures { result ≡ sum_of self.now.rows account.now unit (Within self.now.day (min leg self.now.count)) }
+        ensures { result ≡ period_sum self.now.rows account.now unit (Within self.now.day (min leg self.now.count)) }
     {
         let last = leg.min(self.count) as u32;
         self.rows

@@ -43,11 +43,11 @@ impl Model for PlainLedger {
 
     ghost Value = { List Entry };
 
-    ghost use Rattle.book_core.specs.PlainLedger.{IsKept};
+    ghost use Rattle.book_core.specs.PlainLedger.{IsPlainLedger};
 
     ghost view = { λ a. a.entries.items };
 
-    ghost invariant = { λ a. IsKept a.entries.items a.accounts.items };
+    ghost invariant = { λ a. IsPlainLedger a.entries.items a.accounts.items };
 }
 
 /// Whether the new entries may follow the old ones: the first of 23, 28 and 29, else Ok.

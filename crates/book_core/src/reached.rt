@@ -9,7 +9,7 @@ ghost use Rattle.book_core.specs.declared.entry.Entry.{Entry as Line};
 ghost use Rattle.book_core.specs.declared.place.Place.{Place as Spotted};
 ghost use Rattle.book_core.specs.Book.{posted_legs, posted_from};
 ghost use Rattle.book_core.specs.Claim.{asserted_claims, asserted_from, reach_of};
-ghost use Rattle.book_core.specs.ClaimIndex.{spot_at, AreFound};
+ghost use Rattle.book_core.specs.ClaimIndex.{spot_at, FindsEach};
 ghost use Rattle.book_core.specs.Reached.{touches, is_touched};
 ghost use Rattle.book_core.specs.Gathered.{places_of, IsReachedAt, AreReachedAt, HasReached, Gathered};
 ghost use Rattle.book_core.specs.GoodBook.{IsFit};
@@ -173,7 +173,7 @@ fn push_reached(
     reach: Reach,
     new: &[Entry],
 ) -> Result<(), Cause>
-    requires index { AreFound index.now (asserted_from 1 old.now) }
+    requires index { FindsEach index.now (asserted_from 1 old.now) }
     requires numbers { length old.now + length new.now < 2 ^ 63 }
     requires only { AreReachedAt old.now new.now places.old.items }
     ensures only { OnOk result (AreReachedAt old.now new.now places.new.items) }
@@ -199,7 +199,7 @@ fn touched_places(
     index: &ClaimIndex,
     new: &[Entry],
 ) -> Result<Vec<Place>, Cause>
-    requires index { AreFound index.now (asserted_from 1 old.now) }
+    requires index { FindsEach index.now (asserted_from 1 old.now) }
     requires numbers { length old.now + length new.now < 2 ^ 63 }
     ensures only { IfOk result (λ v. AreReachedAt old.now new.now v.items) }
     ensures all { IfOk result (λ v. (x : Assertion) → Contains (asserted_from 1 old.now) x
@@ -250,7 +250,7 @@ pub fn reached_places(
     new: &[Entry],
 ) -> Result<Vec<Place>, Cause>
     requires fit { AllByRecursion IsFit (old.now ++ new.now) }
-    requires index { AreFound index.now (asserted_from 1 old.now) }
+    requires index { FindsEach index.now (asserted_from 1 old.now) }
     requires numbers { length old.now + length new.now < 2 ^ 63 }
     ensures places { IfOk result (λ v. Gathered old.now new.now v.items) }
     ensures memory { IsOkUnless result Cause.OutOfMemory }

@@ -7,11 +7,11 @@ use Rattle.money_core.specs.declared.day.Day.{Day}
 use Rattle.day_sums.specs.declared.sums.DaySums.{DaySums}
 use Rattle.day_sums.specs.declared.period.Period.{Period}
 use Rattle.day_sums.specs.Points.{IsUpTo}
-use Rattle.day_sums.specs.Sums.{sum_of, share_of, SameSums, RaisedSums}
+use Rattle.day_sums.specs.Sums.{period_sum, share_of, SameSums, RaisedSums}
 
 -- every sum is at most m, up or down
 abbrev pub AreUpTo : ℕ → DaySums → Type 0
-AreUpTo m s = (a : List ℕ) (u : Commodity) (p : Period) → IsUpTo m (sum_of s a u p)
+AreUpTo m s = (a : List ℕ) (u : Commodity) (p : Period) → IsUpTo m (period_sum s a u p)
 
 pub zero_up_to : (m : ℕ) → IsUpTo m (pos 0)
 zero_up_to m = record { low = omega (arith, ints); high = omega (arith, ints) }
@@ -36,4 +36,5 @@ pub raised_up_to : (m n : ℕ) (account : List ℕ) (unit : Commodity) (day : Da
     → IsUpTo n q → RaisedSums account unit day number q old new → AreUpTo m old → AreUpTo (m + n) new
 raised_up_to m n account unit day number q old new small raised h = λ a u p.
     subst (IsUpTo (m + n)) (sym (raised.sums a u p))
-    (both_up_to m n (sum_of old a u p) (share_of account unit day number q a u p) (h a u p) (share_up_to n q _ small))
+    (both_up_to m n (period_sum old a u p) (share_of account unit day number q a u p) (h a u p)
+    (share_up_to n q _ small))

@@ -4,7 +4,7 @@ ghost use Rattle.std.specs.Prelude.{ℕ, List, IfOk};
 ghost use Rattle.money_core.specs.declared.unit.Unit.{Unit as Commodity};
 ghost use Rattle.day_sums.specs.declared.period.Period.{Period as Span};
 ghost use Rattle.day_sums.specs.Points.{IsUpTo};
-ghost use Rattle.day_sums.specs.Sums.{sum_of};
+ghost use Rattle.day_sums.specs.Sums.{period_sum};
 
 use day_sums::{Cause, Day, DaySums, NamedSpots, Period, Spot, Unit};
 use std::alloc::Global;
@@ -20,9 +20,9 @@ type Move = (&'static str, Unit, i32, u32, i16);
 /// Adds a quantity, where no sum is over `limit` yet, and answers what no sum is over then. It is `Full` well below the
 /// sums that `raise_row` takes.
 fn moved(sums: &mut DaySums, limit: u64, more: &Move) -> Result<u64, Cause>
-    requires { (a : List ℕ) (u : Commodity) (p : Span) → IsUpTo limit (sum_of sums.old a u p) }
+    requires { (a : List ℕ) (u : Commodity) (p : Span) → IsUpTo limit (period_sum sums.old a u p) }
     ensures { IfOk result (λ (most : ℕ). (a : List ℕ) (u : Commodity) (p : Span)
-        → IsUpTo most (sum_of sums.new a u p)) }
+        → IsUpTo most (period_sum sums.new a u p)) }
 {
     if limit > 1_000_000_000_000_000 {
         return Err(Cause::Full);

@@ -9,7 +9,7 @@ use Rattle.std.specs.declared.cmp.Ordering.TheVariants.{Less, Equal, Greater}
 use Rattle.std.proofs.lemmas.Int.{ints}
 use Rattle.std.proofs.lemmas.Bool.Decides.{Decides-int_eq}
 use Rattle.day_sums.specs.declared.points.Point.{Point}
-use Rattle.day_sums.specs.Points.{is_none, sum_at, has, IsUpTo, SamePoints, RaisedPoints}
+use Rattle.day_sums.specs.Points.{is_none, point_sum, has_point, IsUpTo, SamePoints, RaisedPoints}
 use Rattle.day_sums.specs.Blocks.{Spread, points_at, block_of, last_of, day_sum, has_day, one_day, IsSpread, SameDays}
 use Rattle.day_sums.specs.Blocks.{RaisedDays}
 
@@ -25,15 +25,15 @@ share q t = if t then q else pos 0
 pub none_more : (z : ℤ) → z ≡ z +ℤ pos 0
 none_more z = omega (arith, ints)
 
-pub has_some : (d : ℤ) (ps : List Point) → has d ps ≡ true → is_none ps ≡ false
+pub has_some : (d : ℤ) (ps : List Point) → has_point d ps ≡ true → is_none ps ≡ false
 has_some d [] h = absurd (cc)
 has_some d (p ∷ ps) h = refl
 
-pub still_some : (ps qs : List Point) → ((d : ℤ) → has d ps ≡ true → has d qs ≡ true) → is_none ps ≡ false
+pub still_some : (ps qs : List Point) → ((d : ℤ) → has_point d ps ≡ true → has_point d qs ≡ true) → is_none ps ≡ false
     → is_none qs ≡ false
 still_some [] qs h e = absurd (cc)
 still_some (p ∷ ps) qs h e =
-    has_some p.at qs (h p.at (ap (λ (t : Bool). t || has p.at ps) ((Decides-int_eq p.at p.at).1 refl)))
+    has_some p.at qs (h p.at (ap (λ (t : Bool). t || has_point p.at ps) ((Decides-int_eq p.at p.at).1 refl)))
 
 either_way : (t u : Bool) → is_eq (cond t Less (cond u Greater Equal)) ≡ is_eq (cond u Less (cond t Greater Equal))
 either_way true true = refl
@@ -149,8 +149,8 @@ module _ (r s : Spread) (tops : SamePoints r.0 s.0)
     (own : (k : ℤ) → SamePoints (points_at r.1 k) (points_at s.1 k)) where
   sums_opened : (d : ℤ) → day_sum s d ≡ day_sum r d
   sums_opened d =
-      ap (λ (z : ℤ). z +ℤ sum_at (pos 0) (points_at s.1 (block_of d)) d) (tops.sums (block_of d +ℤ negsuc 0)) ∙ ap
-      (λ (z : ℤ). sum_at (pos 0) r.0 (block_of d +ℤ negsuc 0) +ℤ z) ((own (block_of d)).sums d)
+      ap (λ (z : ℤ). z +ℤ point_sum (pos 0) (points_at s.1 (block_of d)) d) (tops.sums (block_of d +ℤ negsuc 0)) ∙ ap
+      (λ (z : ℤ). point_sum (pos 0) r.0 (block_of d +ℤ negsuc 0) +ℤ z) ((own (block_of d)).sums d)
 
   pub same_days : SameDays r s
   same_days = record {
@@ -171,17 +171,18 @@ module _ (r s : Spread) (tops : SamePoints r.0 s.0)
 module _ (r s : Spread) (at q : ℤ) (tops : RaisedPoints (block_of at) q r.0 s.0)
     (own : RaisedPoints at q (points_at r.1 (block_of at)) (points_at s.1 (block_of at)))
     (others : (k : ℤ) → int_eq (block_of at) k ≡ false → points_at s.1 k ≡ points_at r.1 k) where
-  part_raised : (k z : ℤ) → sum_at (pos 0) (points_at s.1 k) z
-      ≡ sum_at (pos 0) (points_at r.1 k) z +ℤ share q (int_eq (block_of at) k && int_le at z)
+  part_raised : (k z : ℤ) → point_sum (pos 0) (points_at s.1 k) z
+      ≡ point_sum (pos 0) (points_at r.1 k) z +ℤ share q (int_eq (block_of at) k && int_le at z)
   part_raised k z = by_block (int_eq (block_of at) k) refl
     where
       by_block : (t : Bool) → int_eq (block_of at) k ≡ t
-          → sum_at (pos 0) (points_at s.1 k) z ≡ sum_at (pos 0) (points_at r.1 k) z +ℤ share q (t && int_le at z)
+          → point_sum (pos 0) (points_at s.1 k) z ≡ point_sum (pos 0) (points_at r.1 k) z +ℤ share q (t && int_le at z)
       by_block true e = subst (λ (j : ℤ).
-          sum_at (pos 0) (points_at s.1 j) z ≡ sum_at (pos 0) (points_at r.1 j) z +ℤ share q (int_le at z))
+          point_sum (pos 0) (points_at s.1 j) z ≡ point_sum (pos 0) (points_at r.1 j) z +ℤ share q (int_le at z))
           ((Decides-int_eq (block_of at) k).0 e) (own.sums z)
       by_block false e =
-          ap (λ (ps : List Point). sum_at (pos 0) ps z) (others k e) ∙ none_more (sum_at (pos 0) (points_at r.1 k) z)
+          ap (λ (ps : List Point). point_sum (pos 0) ps z) (others k e)
+          ∙ none_more (point_sum (pos 0) (points_at r.1 k) z)
 
   sums_raised : (d : ℤ) → day_sum s d ≡ day_sum r d +ℤ share q (int_le at d)
   sums_raised d =
@@ -190,15 +191,15 @@ module _ (r s : Spread) (at q : ℤ) (tops : RaisedPoints (block_of at) q r.0 s.
       let c = test_day at d q in
       omega (arith, ints)
 
-  part_kept : (k z : ℤ) → has z (points_at r.1 k) ≡ true → has z (points_at s.1 k) ≡ true
+  part_kept : (k z : ℤ) → has_point z (points_at r.1 k) ≡ true → has_point z (points_at s.1 k) ≡ true
   part_kept k z h = by_block (int_eq (block_of at) k) refl
     where
-      by_block : (t : Bool) → int_eq (block_of at) k ≡ t → has z (points_at s.1 k) ≡ true
+      by_block : (t : Bool) → int_eq (block_of at) k ≡ t → has_point z (points_at s.1 k) ≡ true
       by_block true e =
           let f = (Decides-int_eq (block_of at) k).0 e in
-          subst (λ (j : ℤ). has z (points_at s.1 j) ≡ true) f
-          (own.points z (subst (λ (j : ℤ). has z (points_at r.1 j) ≡ true) (sym f) h))
-      by_block false e = ap (has z) (others k e) ∙ h
+          subst (λ (j : ℤ). has_point z (points_at s.1 j) ≡ true) f
+          (own.points z (subst (λ (j : ℤ). has_point z (points_at r.1 j) ≡ true) (sym f) h))
+      by_block false e = ap (has_point z) (others k e) ∙ h
 
   pub raised_days : RaisedDays at q r s
   raised_days = record {
@@ -235,10 +236,10 @@ module _ (r s : Spread) (at q : ℤ) (tops : RaisedPoints (block_of at) q r.0 s.
     tops = λ k. tops.sums k ∙ ap (λ (z : ℤ). z +ℤ share q (int_le (block_of at) k)) (h.tops k) ∙ ap
         (λ (t : Bool). day_sum r (last_of k) +ℤ share q t) (test_last at k) ∙ sym (sums_raised (last_of k));
     before = λ k d l. part_raised k d ∙ ap
-        (λ (t : Bool). sum_at (pos 0) (points_at r.1 k) d +ℤ share q t) (raised_before k d l) ∙ sym (none_more _)
+        (λ (t : Bool). point_sum (pos 0) (points_at r.1 k) d +ℤ share q t) (raised_before k d l) ∙ sym (none_more _)
         ∙ h.before k d l;
     behind = λ k d l. part_raised k d ∙ ap
-        (λ (t : Bool). sum_at (pos 0) (points_at r.1 k) d +ℤ share q t) (raised_behind k d l) ∙ ap
+        (λ (t : Bool). point_sum (pos 0) (points_at r.1 k) d +ℤ share q t) (raised_behind k d l) ∙ ap
         (λ (z : ℤ). z +ℤ share q (int_eq (block_of at) k && int_le at (last_of k))) (h.behind k d l) ∙ sym
         (part_raised k (last_of k));
     fits = fits;
@@ -278,7 +279,7 @@ raised_blocks r s day q k j p at_block at_day by tops own others small qty sprea
 
 -- ---- small sums of the parts, where the sums are small
 pub small_tops : (s : Spread) → IsSpread s → ((d : ℤ) → IsUpTo 10000000000000000 (day_sum s d)) → (k : ℤ)
-    → IsUpTo 40000000000000000 (sum_at (pos 0) s.0 k)
+    → IsUpTo 40000000000000000 (point_sum (pos 0) s.0 k)
 small_tops s h small k =
     let e = h.tops k in
     let a = (small (last_of k)).low in
@@ -287,8 +288,8 @@ small_tops s h small k =
 
 -- on a day of the block itself
 small_own : (s : Spread) → IsSpread s → ((d : ℤ) → IsUpTo 10000000000000000 (day_sum s d)) → (k d : ℤ)
-    → block_of d ≡ k → IsUpTo 40000000000000000 (sum_at (pos 0) (points_at s.1 k) d)
-small_own s h small k d e = subst (λ (j : ℤ). IsUpTo 40000000000000000 (sum_at (pos 0) (points_at s.1 j) d)) e
+    → block_of d ≡ k → IsUpTo 40000000000000000 (point_sum (pos 0) (points_at s.1 k) d)
+small_own s h small k d e = subst (λ (j : ℤ). IsUpTo 40000000000000000 (point_sum (pos 0) (points_at s.1 j) d)) e
     (let a = (small d).low in
     let b = (small d).high in
     let t = h.tops (block_of d +ℤ negsuc 0) in
@@ -297,11 +298,11 @@ small_own s h small k d e = subst (λ (j : ℤ). IsUpTo 40000000000000000 (sum_a
     record { low = omega (arith, ints); high = omega (arith, ints) })
 
 pub small_parts : (s : Spread) → IsSpread s → ((d : ℤ) → IsUpTo 10000000000000000 (day_sum s d)) → (k d : ℤ)
-    → IsUpTo 40000000000000000 (sum_at (pos 0) (points_at s.1 k) d)
+    → IsUpTo 40000000000000000 (point_sum (pos 0) (points_at s.1 k) d)
 small_parts s h small k d = by_place (cases_le d (last_of (k +ℤ negsuc 0))) (cases_le (last_of k) d)
   where
     by_place : (d ≤ℤ last_of (k +ℤ negsuc 0)) ⊎ (last_of (k +ℤ negsuc 0) <ℤ d)
-        → (last_of k ≤ℤ d) ⊎ (d <ℤ last_of k) → IsUpTo 40000000000000000 (sum_at (pos 0) (points_at s.1 k) d)
+        → (last_of k ≤ℤ d) ⊎ (d <ℤ last_of k) → IsUpTo 40000000000000000 (point_sum (pos 0) (points_at s.1 k) d)
     by_place (inl a) b = subst (IsUpTo 40000000000000000) (sym (h.before k d a))
         (record { low = omega (arith, ints); high = omega (arith, ints) })
     by_place (inr a) (inl b) = subst (IsUpTo 40000000000000000) (sym (h.behind k d b))
@@ -309,7 +310,7 @@ small_parts s h small k d = by_place (cases_le d (last_of (k +ℤ negsuc 0))) (c
     by_place (inr a) (inr b) = small_own s h small k d (between_last k d a (omega (arith, ints)))
 
 -- ---- one quantity
-zero_points : (at z : ℤ) → sum_at (pos 0) (record { at = at; sum = pos 0 } ∷ []) z ≡ pos 0
+zero_points : (at z : ℤ) → point_sum (pos 0) (record { at = at; sum = pos 0 } ∷ []) z ≡ pos 0
 zero_points at z = by_test (int_le at z)
   where
     by_test : (t : Bool) → (if t then pos 0 else pos 0) ≡ pos 0
@@ -317,11 +318,11 @@ zero_points at z = by_test (int_le at z)
     by_test false = refl
 
 zero_parts : (d k z : ℤ)
-    → sum_at (pos 0) (points_at ((block_of d, record { at = d; sum = pos 0 } ∷ []) ∷ []) k) z ≡ pos 0
-zero_parts d k z = ap (λ (ps : List Point). sum_at (pos 0) ps z)
+    → point_sum (pos 0) (points_at ((block_of d, record { at = d; sum = pos 0 } ∷ []) ∷ []) k) z ≡ pos 0
+zero_parts d k z = ap (λ (ps : List Point). point_sum (pos 0) ps z)
     (points_one (block_of d) (record { at = d; sum = pos 0 } ∷ []) k) ∙ by_test (int_eq (block_of d) k)
   where
-    by_test : (t : Bool) → sum_at (pos 0) (if t then record { at = d; sum = pos 0 } ∷ [] else []) z ≡ pos 0
+    by_test : (t : Bool) → point_sum (pos 0) (if t then record { at = d; sum = pos 0 } ∷ [] else []) z ≡ pos 0
     by_test true = zero_points d z
     by_test false = refl
 
@@ -389,12 +390,12 @@ module _ (d q : ℤ) where
   -- its day is open, and no other
   pub one_has_day : (z : ℤ) → has_day z (one_day d q) ≡ (int_eq d z || false)
   one_has_day z =
-      ap (λ (ps : List Point). (int_eq (block_of d) (block_of z) || false) && has z ps)
+      ap (λ (ps : List Point). (int_eq (block_of d) (block_of z) || false) && has_point z ps)
       (points_one (block_of d) (record { at = d; sum = q } ∷ []) (block_of z))
       ∙ by_tests (int_eq (block_of d) (block_of z)) (int_eq d z) refl refl
     where
       by_tests : (t u : Bool) → int_eq (block_of d) (block_of z) ≡ t → int_eq d z ≡ u →
-          ((t || false) && has z (if t then record { at = d; sum = q } ∷ [] else [])) ≡ (u || false)
+          ((t || false) && has_point z (if t then record { at = d; sum = q } ∷ [] else [])) ≡ (u || false)
       by_tests true u e f = ap (λ (v : Bool). v || false) f
       by_tests false false e f = refl
       by_tests false true e f =

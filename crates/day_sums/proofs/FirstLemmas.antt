@@ -9,7 +9,7 @@ use Rattle.money_core.specs.declared.day.Day.{Day}
 use Rattle.day_sums.specs.declared.points.Point.{Point}
 use Rattle.day_sums.specs.declared.period.Period.{Period}
 use Rattle.day_sums.specs.declared.period.Period.TheVariants.{Before, Through, Within}
-use Rattle.day_sums.specs.Points.{is_none, sum_at, has, IsUpTo}
+use Rattle.day_sums.specs.Points.{is_none, point_sum, has_point, IsUpTo}
 use Rattle.day_sums.specs.Period.{is_in}
 use Rattle.day_sums.specs.Blocks.{points_at}
 use Rattle.day_sums.specs.Row.{Kept, row_sum, one, whole, has_number, SameRow, RaisedRow}
@@ -49,10 +49,10 @@ pub one_sum : (day : Day) (n : ℕ) (q : ℤ) (p : Period) → row_sum (one day 
 one_sum day n q (Before d) =
     one_day_sum day.0 q (d.0 +ℤ negsuc 0) ∙ ap (λ (t : Bool). if t then q else pos 0) (sym (lt_le day.0 d.0))
 one_sum day n q (Through d) = one_day_sum day.0 q d.0
-one_sum day n q (Within d k) = ap (λ (ps : List Point). sum_at (pos 0) ps (pos k))
+one_sum day n q (Within d k) = ap (λ (ps : List Point). point_sum (pos 0) ps (pos k))
     (points_one day.0 (record { at = pos n; sum = q } ∷ []) d.0) ∙ by_day (int_eq day.0 d.0)
   where
-    by_day : (t : Bool) → sum_at (pos 0) (if t then record { at = pos n; sum = q } ∷ [] else []) (pos k)
+    by_day : (t : Bool) → point_sum (pos 0) (if t then record { at = pos n; sum = q } ∷ [] else []) (pos k)
         ≡ (if t && nat_le n k then q else pos 0)
     by_day true = refl
     by_day false = refl
@@ -60,10 +60,11 @@ one_sum day n q (Within d k) = ap (λ (ps : List Point). sum_at (pos 0) ps (pos 
 one_has : (day : Day) (n : ℕ) (q : ℤ) (d : Day) (k : ℕ)
     → has_number (one day n q) d k
     ≡ ((int_eq day.0 d.0 || false)
-    && has (pos k) (if int_eq day.0 d.0 then record { at = pos n; sum = q } ∷ [] else []))
+    && has_point (pos k) (if int_eq day.0 d.0 then record { at = pos n; sum = q } ∷ [] else []))
 one_has day n q d k = ap (λ (t : Bool).
-    t && has (pos k) (points_at ((day.0, record { at = pos n; sum = q } ∷ []) ∷ []) d.0)) (one_has_day day.0 q d.0)
-    ∙ ap (λ (ps : List Point). (int_eq day.0 d.0 || false) && has (pos k) ps)
+    t && has_point (pos k) (points_at ((day.0, record { at = pos n; sum = q } ∷ []) ∷ []) d.0))
+    (one_has_day day.0 q d.0)
+    ∙ ap (λ (ps : List Point). (int_eq day.0 d.0 || false) && has_point (pos k) ps)
     (points_one day.0 (record { at = pos n; sum = q } ∷ []) d.0)
 
 -- what is open is the quantity's own day and number
@@ -72,11 +73,11 @@ its_own : (day : Day) (n : ℕ) (q : ℤ) (d : Day) (k : ℕ) → has_number (on
 its_own day n q d k h = by_tests (int_eq day.0 d.0) (int_eq (pos n) (pos k)) refl refl (sym (one_has day n q d k) ∙ h)
   where
     by_tests : (t u : Bool) → int_eq day.0 d.0 ≡ t → int_eq (pos n) (pos k) ≡ u
-        → ((t || false) && has (pos k) (if t then record { at = pos n; sum = q } ∷ [] else [])) ≡ true
+        → ((t || false) && has_point (pos k) (if t then record { at = pos n; sum = q } ∷ [] else [])) ≡ true
         → (day.0 ≡ d.0) × (pos n ≡ pos k)
     by_tests true true e f g = ((Decides-int_eq day.0 d.0).0 e, (Decides-int_eq (pos n) (pos k)).0 f)
     by_tests true false e f g =
-        absurd (let w : has (pos k) (record { at = pos n; sum = q } ∷ []) ≡ false = rw f refl in cc)
+        absurd (let w : has_point (pos k) (record { at = pos n; sum = q } ∷ []) ≡ false = rw f refl in cc)
     by_tests false u e f g = absurd (cc)
 
 pub one_open : (day : Day) (n : ℕ) (q : ℤ) → has_number (one day n q) day n ≡ true
@@ -88,8 +89,8 @@ if_add true a q = refl
 if_add false a q = omega (arith, ints)
 
 kept_open : (t : Bool) (n : ℕ) (a b : ℤ) (k : ℕ)
-    → ((t || false) && has (pos k) (if t then record { at = pos n; sum = a } ∷ [] else []))
-    ≡ ((t || false) && has (pos k) (if t then record { at = pos n; sum = b } ∷ [] else []))
+    → ((t || false) && has_point (pos k) (if t then record { at = pos n; sum = a } ∷ [] else []))
+    ≡ ((t || false) && has_point (pos k) (if t then record { at = pos n; sum = b } ∷ [] else []))
 kept_open true n a b k = refl
 kept_open false n a b k = refl
 

@@ -14,7 +14,7 @@ use Rattle.std.proofs.lemmas.Map.Text.{is_eq-slice_cmp}
 use Rattle.std.proofs.lemmas.Slice.Eq.{bytes_eq-Decides}
 use Rattle.money_core.proofs.BytesLemmas.{third_bytes}
 use Rattle.day_sums.specs.Row.{Kept, no_row, SameRow}
-use Rattle.day_sums.specs.Sums.{Names, row_at}
+use Rattle.day_sums.specs.Sums.{KeptByName, row_at}
 use Rattle.day_sums.proofs.RowLemmas.{same_none}
 
 other_entries : {K X : Type 0} (eq : K → K → Bool) (test : K → Bool) (old new : List (K × X))
@@ -49,25 +49,25 @@ under_other name m n v h a e = other_entries _ _ _ _ h.3 _
 abbrev pub vec_eq : Vec ℕ Global → Vec ℕ Global → Bool
 vec_eq x y = bytes_eq x.items y.items
 
-abbrev pub Writes : List ℕ → Names → Names → Kept → Type 0
+abbrev pub Writes : List ℕ → KeptByName → KeptByName → Kept → Type 0
 Writes name m n r = hash.UpdatesBy vec_eq (λ (k : Vec ℕ Global). bytes_eq name k.items) m n (Some r)
 
 abbrev pub in_row : Option Kept → Kept
 in_row o = unwrap_or o no_row
 
 -- the name has its row
-pub row_own : (name : List ℕ) (m n : Names) (r : Kept) → Writes name m n r → row_at n name ≡ r
+pub row_own : (name : List ℕ) (m n : KeptByName) (r : Kept) → Writes name m n r → row_at n name ≡ r
 row_own name m n r h = ap in_row h.1
 
 -- another name has the row that it had
-pub row_other : (name : List ℕ) (m n : Names) (r : Kept) → Writes name m n r → (a : List ℕ) → bytes_eq name a ≡ false
-    → row_at n a ≡ row_at m a
+pub row_other : (name : List ℕ) (m n : KeptByName) (r : Kept) → Writes name m n r → (a : List ℕ)
+    → bytes_eq name a ≡ false → row_at n a ≡ row_at m a
 row_other name m n r h a e = ap in_row
     (other_entries _ _ _ _ h.3 _ (λ x y. nat_list_eq_equiv.congr a x.items y.items)
     (λ k. third_bytes name a k.items e))
 
-pub same_rows : (name : List ℕ) (m n : Names) (r : Kept) → Writes name m n r → SameRow (row_at m name) r → (a : List ℕ)
-    → SameRow (row_at m a) (row_at n a)
+pub same_rows : (name : List ℕ) (m n : KeptByName) (r : Kept) → Writes name m n r → SameRow (row_at m name) r
+    → (a : List ℕ) → SameRow (row_at m a) (row_at n a)
 same_rows name m n r h same a = by_test (bytes_eq name a) refl
   where
     by_test : (t : Bool) → bytes_eq name a ≡ t → SameRow (row_at m a) (row_at n a)

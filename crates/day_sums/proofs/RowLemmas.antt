@@ -10,7 +10,7 @@ use Rattle.std.proofs.lemmas.Int.{ints}
 use Rattle.std.proofs.lemmas.Bool.Decides.{Decides-int_eq}
 use Rattle.money_core.specs.declared.day.Day.{Day}
 use Rattle.day_sums.specs.declared.points.Point.{Point}
-use Rattle.day_sums.specs.Points.{sum_at, has, IsUpTo, SamePoints, RaisedPoints}
+use Rattle.day_sums.specs.Points.{point_sum, has_point, IsUpTo, SamePoints, RaisedPoints}
 use Rattle.day_sums.specs.declared.period.Period.{Period}
 use Rattle.day_sums.specs.declared.period.Period.TheVariants.{Before, Through, Within}
 use Rattle.day_sums.specs.Period.{is_in}
@@ -43,17 +43,19 @@ module _ (r s : Kept) (day : Day) (n : ℕ) (q : ℤ) (days : RaisedDays day.0 q
     (own : RaisedPoints (pos n) q (points_at r.1 day.0) (points_at s.1 day.0))
     (others : (k : ℤ) → int_eq day.0 k ≡ false → points_at s.1 k ≡ points_at r.1 k) where
   -- the sums of a day's own
-  within_raised : (k z : ℤ) → sum_at (pos 0) (points_at s.1 k) z
-      ≡ sum_at (pos 0) (points_at r.1 k) z +ℤ share q (int_eq day.0 k && int_le (pos n) z)
+  within_raised : (k z : ℤ) → point_sum (pos 0) (points_at s.1 k) z
+      ≡ point_sum (pos 0) (points_at r.1 k) z +ℤ share q (int_eq day.0 k && int_le (pos n) z)
   within_raised k z = by_day (int_eq day.0 k) refl
     where
       by_day : (t : Bool) → int_eq day.0 k ≡ t
-          → sum_at (pos 0) (points_at s.1 k) z ≡ sum_at (pos 0) (points_at r.1 k) z +ℤ share q (t && int_le (pos n) z)
+          → point_sum (pos 0) (points_at s.1 k) z ≡ point_sum (pos 0) (points_at r.1 k) z +ℤ share q
+          (t && int_le (pos n) z)
       by_day true e = subst (λ (j : ℤ).
-          sum_at (pos 0) (points_at s.1 j) z ≡ sum_at (pos 0) (points_at r.1 j) z +ℤ share q (int_le (pos n) z))
+          point_sum (pos 0) (points_at s.1 j) z ≡ point_sum (pos 0) (points_at r.1 j) z +ℤ share q (int_le (pos n) z))
           ((Decides-int_eq day.0 k).0 e) (own.sums z)
       by_day false e =
-          ap (λ (ps : List Point). sum_at (pos 0) ps z) (others k e) ∙ none_more (sum_at (pos 0) (points_at r.1 k) z)
+          ap (λ (ps : List Point). point_sum (pos 0) ps z) (others k e)
+          ∙ none_more (point_sum (pos 0) (points_at r.1 k) z)
 
   sums_raised : (p : Period) → row_sum s p ≡ row_sum r p +ℤ share q (is_in p day n)
   sums_raised (Before d) = days.sums (d.0 +ℤ negsuc 0) ∙ ap
@@ -61,13 +63,13 @@ module _ (r s : Kept) (day : Day) (n : ℕ) (q : ℤ) (days : RaisedDays day.0 q
   sums_raised (Through d) = days.sums d.0
   sums_raised (Within d k) = within_raised d.0 (pos k)
 
-  points_kept : (k z : ℤ) → has z (points_at r.1 k) ≡ true → has z (points_at s.1 k) ≡ true
+  points_kept : (k z : ℤ) → has_point z (points_at r.1 k) ≡ true → has_point z (points_at s.1 k) ≡ true
   points_kept k z h = by_day (int_eq day.0 k) refl
     where
-      by_day : (t : Bool) → int_eq day.0 k ≡ t → has z (points_at s.1 k) ≡ true
-      by_day true e = let f = (Decides-int_eq day.0 k).0 e in subst (λ (j : ℤ). has z (points_at s.1 j) ≡ true) f
-          (own.points z (subst (λ (j : ℤ). has z (points_at r.1 j) ≡ true) (sym f) h))
-      by_day false e = ap (has z) (others k e) ∙ h
+      by_day : (t : Bool) → int_eq day.0 k ≡ t → has_point z (points_at s.1 k) ≡ true
+      by_day true e = let f = (Decides-int_eq day.0 k).0 e in subst (λ (j : ℤ). has_point z (points_at s.1 j) ≡ true) f
+          (own.points z (subst (λ (j : ℤ). has_point z (points_at r.1 j) ≡ true) (sym f) h))
+      by_day false e = ap (has_point z) (others k e) ∙ h
 
   pub raised_row : RaisedRow day n q r s
   raised_row =
@@ -76,8 +78,8 @@ module _ (r s : Kept) (day : Day) (n : ℕ) (q : ℤ) (days : RaisedDays day.0 q
   pub kept_raised : IsRow r → IsRow s
   kept_raised row k j = within_raised k (negsuc j) ∙ by_day (int_eq day.0 k) (row k j)
     where
-      by_day : (t : Bool) → sum_at (pos 0) (points_at r.1 k) (negsuc j) ≡ pos 0
-          → sum_at (pos 0) (points_at r.1 k) (negsuc j) +ℤ share q (t && int_le (pos n) (negsuc j)) ≡ pos 0
+      by_day : (t : Bool) → point_sum (pos 0) (points_at r.1 k) (negsuc j) ≡ pos 0
+          → point_sum (pos 0) (points_at r.1 k) (negsuc j) +ℤ share q (t && int_le (pos n) (negsuc j)) ≡ pos 0
       by_day true e = sym (none_more _) ∙ e
       by_day false e = sym (none_more _) ∙ e
 
@@ -102,8 +104,8 @@ raised_parts r s day n q k j p at_day at_number by days own others row =
 
 -- ---- an open number has its points, and small sums
 pub is_open_within : (r : Kept) (d : Day) (n : ℕ) → has_number r d n ≡ true
-    → (has_day d.0 r.0 ≡ true) × (has (pos n) (points_at r.1 d.0) ≡ true)
-is_open_within r d n h = parts (has_day d.0 r.0) (has (pos n) (points_at r.1 d.0)) h
+    → (has_day d.0 r.0 ≡ true) × (has_point (pos n) (points_at r.1 d.0) ≡ true)
+is_open_within r d n h = parts (has_day d.0 r.0) (has_point (pos n) (points_at r.1 d.0)) h
   where
     parts : (s t : Bool) → (s && t) ≡ true → (s ≡ true) × (t ≡ true)
     parts true t e = (refl, e)
@@ -118,7 +120,7 @@ pub small_days : (r : Kept) → ((p : Period) → IsUpTo 10000000000000000 (row_
 small_days r small k = small (Through (record { 0 = k }))
 
 pub small_numbers : (r : Kept) → IsRow r → ((p : Period) → IsUpTo 10000000000000000 (row_sum r p)) → (k z : ℤ)
-    → IsUpTo 40000000000000000 (sum_at (pos 0) (points_at r.1 k) z)
+    → IsUpTo 40000000000000000 (point_sum (pos 0) (points_at r.1 k) z)
 small_numbers r row small k (pos n) = IsUpTo_fourfold _ (small (Within (record { 0 = k }) n))
 small_numbers r row small k (negsuc j) =
     subst (IsUpTo 40000000000000000) (sym (row k j)) (record { low = omega (arith, ints); high = omega (arith, ints) })
@@ -129,7 +131,7 @@ small_view r v e small p = subst (λ (x : Kept). IsUpTo 10000000000000000 (row_s
 
 -- a day with no numbers adds nothing
 pub none_within : (r v : Kept) → r ≡ v → (k l z : ℤ) → k ≡ l → None ≡ lookup (is_at (int_cmp k)) r.1
-    → pos 0 ≡ sum_at (pos 0) (points_at v.1 l) z
+    → pos 0 ≡ point_sum (pos 0) (points_at v.1 l) z
 none_within r v e k l z f h =
-    ap (λ (o : Option (List Point)). sum_at (pos 0) (unwrap_or o []) z) h ∙ ap
-    (λ (j : ℤ). sum_at (pos 0) (points_at r.1 j) z) f ∙ ap (λ (x : Kept). sum_at (pos 0) (points_at x.1 l) z) e
+    ap (λ (o : Option (List Point)). point_sum (pos 0) (unwrap_or o []) z) h ∙ ap
+    (λ (j : ℤ). point_sum (pos 0) (points_at r.1 j) z) f ∙ ap (λ (x : Kept). point_sum (pos 0) (points_at x.1 l) z) e

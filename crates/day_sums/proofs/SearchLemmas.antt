@@ -8,11 +8,11 @@ use Rattle.std.proofs.lemmas.List.Sums.{prefix_len_is}
 use Rattle.std.proofs.lemmas.Int.{ints}
 use Rattle.std.proofs.lemmas.Bool.Decides.{nat_tests}
 use Rattle.day_sums.specs.declared.points.Point.{Point}
-use Rattle.day_sums.specs.Points.{sum_at, is_before, is_through, Ascends}
+use Rattle.day_sums.specs.Points.{point_sum, is_point_before, is_through, Ascends}
 
 -- the point that a search finds has the sum
 pub sum_at-prefix : (z : ℤ) (ps : List Point) (d : ℤ) (x : Point)
-    → sum_at z ps d
+    → point_sum z ps d
     ≡ (if nat_eq (prefix_len (is_through d) ps) 0 then z else (get_or ps (prefix_len (is_through d) ps - 1) x).sum)
 sum_at-prefix z [] d x = refl
 sum_at-prefix z (p ∷ ps) d x = by_test (is_through d p) (sum_at-prefix p.sum ps d x)
@@ -31,10 +31,10 @@ sum_at-prefix z (p ∷ ps) d x = by_test (is_through d p) (sum_at-prefix p.sum p
         let f : suc n - 1 ≡ 1 + n - 1 = omega arith in
         rw e (ap (λ (k : ℕ). (get_or (p ∷ ps) k x).sum) f)
 
-    by_test : (t : Bool) → sum_at p.sum ps d
+    by_test : (t : Bool) → point_sum p.sum ps d
         ≡ (if nat_eq (prefix_len (is_through d) ps) 0 then p.sum
         else (get_or ps (prefix_len (is_through d) ps - 1) x).sum) →
-        (if t then sum_at p.sum ps d else z)
+        (if t then point_sum p.sum ps d else z)
         ≡ (if nat_eq (cond t (1 + prefix_len (is_through d) ps) 0) 0 then z
         else (get_or (p ∷ ps) (cond t (1 + prefix_len (is_through d) ps) 0 - 1) x).sum)
     by_test true h = h ∙ inner (prefix_len (is_through d) ps) ∙ more_than (prefix_len (is_through d) ps)
@@ -73,7 +73,7 @@ back_lt a b c h k = grind (arith, ints)
 pub parted_through : (ps : List Point) (day : ℤ) → Ascends ps → IsPartitionedBy (is_through day) ps
 parted_through ps day h i j d k m e = back_le _ _ day (earlier_day ps i j d h k m) e
 
-pub parted_before : (ps : List Point) (day : ℤ) → Ascends ps → IsPartitionedBy (is_before day) ps
+pub parted_before : (ps : List Point) (day : ℤ) → Ascends ps → IsPartitionedBy (is_point_before day) ps
 parted_before ps day h i j d k m e = back_lt _ _ day (earlier_day ps i j d h k m) e
 
 pub part_prefix : (p : Point → Bool) (xs : List Point) (i : ℕ) (d : Point) → i ≤ length xs
@@ -99,7 +99,8 @@ lt_le a b = by_tests (int_lt a b) (int_le a (b +ℤ negsuc 0)) refl refl
     by_tests true false e f = absurd (let g = up e in cc)
     by_tests false true e f = absurd (let g = down f in cc)
 
-pub same_prefix : (ps : List Point) (d : ℤ) → prefix_len (is_before d) ps ≡ prefix_len (is_through (d +ℤ negsuc 0)) ps
+pub same_prefix : (ps : List Point) (d : ℤ)
+    → prefix_len (is_point_before d) ps ≡ prefix_len (is_through (d +ℤ negsuc 0)) ps
 same_prefix [] d = refl
-same_prefix (p ∷ ps) d = ap (λ (n : ℕ). cond (is_before d p) (1 + n) 0) (same_prefix ps d) ∙ ap
+same_prefix (p ∷ ps) d = ap (λ (n : ℕ). cond (is_point_before d p) (1 + n) 0) (same_prefix ps d) ∙ ap
     (λ (t : Bool). cond t (1 + prefix_len (is_through (d +ℤ negsuc 0)) ps) 0) (lt_le p.at d)

@@ -15,13 +15,13 @@ use Rattle.day_sums.specs.declared.period.Period.{Period}
 use Rattle.day_sums.specs.Period.{is_in}
 use Rattle.day_sums.specs.declared.sums.DaySums.{DaySums}
 use Rattle.day_sums.specs.Row.{Kept, no_row, row_sum, has_number, SameRow, RaisedRow}
-use Rattle.day_sums.specs.Sums.{Names, row_at, SameSums, RaisedSums}
+use Rattle.day_sums.specs.Sums.{KeptByName, row_at, SameSums, RaisedSums}
 use Rattle.day_sums.proofs.RowLemmas.{same_none}
 
-abbrev pub Puts : ℕ → DaySums → DaySums → Names → Type 0
+abbrev pub Puts : ℕ → DaySums → DaySums → KeptByName → Type 0
 Puts u old new names = UpdatesBy nat_cmp (nat_cmp u) old.units new.units (Some names)
 
-abbrev pub in_names : List ℕ → Option Names → Kept
+abbrev pub in_names : List ℕ → Option KeptByName → Kept
 in_names a o = option_map_or (λ names. row_at names a) o no_row
 
 -- the rows of a commodity, none where it has none
@@ -31,11 +31,11 @@ rows_of s u a = in_names a (get nat_cmp s.units u)
 other_unit : (u v : ℕ) → nat_eq u v ≡ false → is_at (nat_cmp u) v ≡ false
 other_unit u v h = search rules
 
-unit_own : (u : ℕ) (old new : DaySums) (names : Names) → Puts u old new names → (a : List ℕ)
+unit_own : (u : ℕ) (old new : DaySums) (names : KeptByName) → Puts u old new names → (a : List ℕ)
     → rows_of new u a ≡ row_at names a
 unit_own u old new names h a = ap (in_names a) h.1
 
-unit_other : (u : ℕ) (old new : DaySums) (names : Names) → Puts u old new names → (v : ℕ) → nat_eq u v ≡ false
+unit_other : (u : ℕ) (old new : DaySums) (names : KeptByName) → Puts u old new names → (v : ℕ) → nat_eq u v ≡ false
     → (a : List ℕ) → rows_of new v a ≡ rows_of old v a
 unit_other u old new names h v e a = ap (in_names a) (h.2 v (other_unit u v e))
 
@@ -43,7 +43,7 @@ same_number : (u v : ℕ) → nat_eq u v ≡ true → u ≡ v
 same_number u v h = grind (arith, nat_tests)
 
 -- the rows of one commodity sum to the same
-pub same_sums : (u : ℕ) (old new : DaySums) (names : Names) → Puts u old new names
+pub same_sums : (u : ℕ) (old new : DaySums) (names : KeptByName) → Puts u old new names
     → ((a : List ℕ) → SameRow (rows_of old u a) (row_at names a)) → SameSums old new
 same_sums u old new names h same = record { sums = λ a v. (rows a v.0).sums; opened = λ a v. (rows a v.0).opened }
   where
@@ -59,7 +59,8 @@ no_more : (z : ℤ) → z ≡ z +ℤ pos 0
 no_more z = omega (arith, ints)
 
 -- one row of one commodity is raised
-pub raised_sums : (account : List ℕ) (unit : Commodity) (day : Day) (n : ℕ) (q : ℤ) (old new : DaySums) (names : Names)
+pub raised_sums : (account : List ℕ) (unit : Commodity) (day : Day) (n : ℕ) (q : ℤ) (old new : DaySums)
+    (names : KeptByName)
     → Puts unit.0 old new names → RaisedRow day n q (rows_of old unit.0 account) (row_at names account) →
     ((a : List ℕ) → bytes_eq account a ≡ false → row_at names a ≡ rows_of old unit.0 a)
     → RaisedSums account unit day n q old new

@@ -8,7 +8,7 @@ use Rattle.std.specs.Ordering.{int_cmp}
 use Rattle.std.specs.BTreeMap.{is_at}
 use Rattle.std.specs.Map.{lookup}
 use Rattle.day_sums.specs.declared.points.Point.{Point}
-use Rattle.day_sums.specs.Points.{is_none, sum_at, has}
+use Rattle.day_sums.specs.Points.{is_none, point_sum, has_point}
 
 -- the points that stand at a number; none where there are none
 abbrev pub points_at : List (ℤ × List Point) → ℤ → List Point
@@ -28,11 +28,11 @@ last_of (negsuc k) = negsuc (k * 2048)
 
 -- the sum through a day: what earlier blocks add, and what its own adds up to it
 abbrev pub day_sum : Spread → ℤ → ℤ
-day_sum s d = sum_at (pos 0) s.0 (block_of d +ℤ negsuc 0) +ℤ sum_at (pos 0) (points_at s.1 (block_of d)) d
+day_sum s d = point_sum (pos 0) s.0 (block_of d +ℤ negsuc 0) +ℤ point_sum (pos 0) (points_at s.1 (block_of d)) d
 
 -- whether a day is open
 abbrev pub has_day : ℤ → Spread → Bool
-has_day d s = has (block_of d) s.0 && has d (points_at s.1 (block_of d))
+has_day d s = has_point (block_of d) s.0 && has_point d (points_at s.1 (block_of d))
 
 -- the sums of one quantity
 abbrev pub one_day : ℤ → ℤ → Spread
@@ -41,10 +41,10 @@ one_day d q = (record { at = block_of d; sum = q } ∷ [], (block_of d, record {
 -- the sum through a block is that through its last day; a block has no sum of its own before its days, and the same one
 -- after them; every sum fits a machine integer
 pub record IsSpread (s : Spread) : Type 0 where
-  pub tops : (k : ℤ) → sum_at (pos 0) s.0 k ≡ day_sum s (last_of k)
-  pub before : (k d : ℤ) → d ≤ℤ last_of (k +ℤ negsuc 0) → sum_at (pos 0) (points_at s.1 k) d ≡ pos 0
+  pub tops : (k : ℤ) → point_sum (pos 0) s.0 k ≡ day_sum s (last_of k)
+  pub before : (k d : ℤ) → d ≤ℤ last_of (k +ℤ negsuc 0) → point_sum (pos 0) (points_at s.1 k) d ≡ pos 0
   pub behind : (k d : ℤ) → last_of k ≤ℤ d
-      → sum_at (pos 0) (points_at s.1 k) d ≡ sum_at (pos 0) (points_at s.1 k) (last_of k)
+      → point_sum (pos 0) (points_at s.1 k) d ≡ point_sum (pos 0) (points_at s.1 k) (last_of k)
   pub fits : (d : ℤ) → FitsSigned w64 (day_sum s d)
 
 -- the same sums, and what was open is open

@@ -7,13 +7,13 @@ use Rattle.std.specs.Ordering.{int_eq}
 use Rattle.day_sums.specs.declared.points.Point.{Point}
 
 -- the sum through a number, z being that before the row: it stays from one point to the next
-abbrev pub sum_at : ℤ → List Point → ℤ → ℤ
-sum_at z [] d = z
-sum_at z (p ∷ ps) d = if int_le p.at d then sum_at p.sum ps d else z
+abbrev pub point_sum : ℤ → List Point → ℤ → ℤ
+point_sum z [] d = z
+point_sum z (p ∷ ps) d = if int_le p.at d then point_sum p.sum ps d else z
 
 -- whether a number has its point
-abbrev pub has : ℤ → List Point → Bool
-has d ps = list_any (λ (p : Point). int_eq p.at d) ps
+abbrev pub has_point : ℤ → List Point → Bool
+has_point d ps = list_any (λ (p : Point). int_eq p.at d) ps
 
 -- whether there is no point
 abbrev pub is_none : List Point → Bool
@@ -32,18 +32,18 @@ pub record IsUpTo (m : ℕ) (z : ℤ) : Type 0 where
 
 -- the same sums, and what had its point has it still
 pub record SamePoints (old new : List Point) : Type 0 where
-  pub sums : (d : ℤ) → sum_at (pos 0) new d ≡ sum_at (pos 0) old d
-  pub points : (d : ℤ) → has d old ≡ true → has d new ≡ true
+  pub sums : (d : ℤ) → point_sum (pos 0) new d ≡ point_sum (pos 0) old d
+  pub points : (d : ℤ) → has_point d old ≡ true → has_point d new ≡ true
 
 -- each sum from `at` on is more by q
 pub record RaisedPoints (at q : ℤ) (old new : List Point) : Type 0 where
-  pub sums : (d : ℤ) → sum_at (pos 0) new d ≡ sum_at (pos 0) old d +ℤ (if int_le at d then q else pos 0)
-  pub points : (d : ℤ) → has d old ≡ true → has d new ≡ true
+  pub sums : (d : ℤ) → point_sum (pos 0) new d ≡ point_sum (pos 0) old d +ℤ (if int_le at d then q else pos 0)
+  pub points : (d : ℤ) → has_point d old ≡ true → has_point d new ≡ true
 
 -- ---- what mirrors code
 
-abbrev pub is_before : ℤ → Point → Bool
-is_before d p = int_lt p.at d
+abbrev pub is_point_before : ℤ → Point → Bool
+is_point_before d p = int_lt p.at d
 
 abbrev pub is_through : ℤ → Point → Bool
 is_through d p = int_le p.at d

@@ -2,7 +2,7 @@
 use Rattle.std.specs.Prelude.{◌≡◌, true, Bool, ◌&&◌, List, [], ◌∷◌, ℕ, ℤ, pos, negsuc, ◌+ℤ◌, if◌then◌else◌}
 use Rattle.money_core.specs.declared.day.Day.{Day}
 use Rattle.day_sums.specs.declared.points.Point.{Point}
-use Rattle.day_sums.specs.Points.{is_none, sum_at, has}
+use Rattle.day_sums.specs.Points.{is_none, point_sum, has_point}
 use Rattle.day_sums.specs.Blocks.{Spread, points_at, day_sum, has_day, one_day}
 use Rattle.day_sums.specs.declared.period.Period.{Period}
 use Rattle.day_sums.specs.declared.period.Period.TheVariants.{Before, Through, Within}
@@ -20,7 +20,7 @@ no_row = (([], []), [])
 abbrev pub row_sum : Kept → Period → ℤ
 row_sum r (Before d) = day_sum r.0 (d.0 +ℤ negsuc 0)
 row_sum r (Through d) = day_sum r.0 d.0
-row_sum r (Within d n) = sum_at (pos 0) (points_at r.1 d.0) (pos n)
+row_sum r (Within d n) = point_sum (pos 0) (points_at r.1 d.0) (pos n)
 
 -- the row of one quantity
 abbrev pub one : Day → ℕ → ℤ → Kept
@@ -32,11 +32,11 @@ whole day n q r = if is_none r.0.0 then one day n q else r
 
 -- whether a day's number is open
 abbrev pub has_number : Kept → Day → ℕ → Bool
-has_number r d n = has_day d.0 r.0 && has (pos n) (points_at r.1 d.0)
+has_number r d n = has_day d.0 r.0 && has_point (pos n) (points_at r.1 d.0)
 
 -- no number is below 0
 abbrev pub IsRow : Kept → Type 0
-IsRow r = (k : ℤ) (j : ℕ) → sum_at (pos 0) (points_at r.1 k) (negsuc j) ≡ pos 0
+IsRow r = (k : ℤ) (j : ℕ) → point_sum (pos 0) (points_at r.1 k) (negsuc j) ≡ pos 0
 
 -- the same sums, and what was open is open
 pub record SameRow (old new : Kept) : Type 0 where

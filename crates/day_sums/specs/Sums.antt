@@ -17,19 +17,19 @@ use Rattle.day_sums.specs.Period.{is_in}
 use Rattle.day_sums.specs.Row.{Kept, no_row, row_sum, has_number}
 
 -- the rows of the accounts in one commodity
-abbrev pub Names : Type 0
-Names = HashMap (Vec ℕ Global) Kept (BuildHasherDefault FoldHasher)
+abbrev pub KeptByName : Type 0
+KeptByName = HashMap (Vec ℕ Global) Kept (BuildHasherDefault FoldHasher)
 
 -- the row of an account, and of an account in a commodity; empty where there is none
-abbrev pub row_at : Names → List ℕ → Kept
+abbrev pub row_at : KeptByName → List ℕ → Kept
 row_at names a = unwrap_or (get_by (λ k. bytes_eq a k.items) names) no_row
 
 abbrev pub look : DaySums → List ℕ → Commodity → Kept
 look rows a u = option_map_or (λ names. row_at names a) (get nat_cmp rows.units u.0) no_row
 
 -- the sum of an account in a commodity over a period, in smallest units
-abbrev pub sum_of : DaySums → List ℕ → Commodity → Period → ℤ
-sum_of rows a u p = row_sum (look rows a u) p
+abbrev pub period_sum : DaySums → List ℕ → Commodity → Period → ℤ
+period_sum rows a u p = row_sum (look rows a u) p
 
 -- whether a day's number is open for an account in a commodity: raising from it needs no memory
 abbrev pub is_open : DaySums → List ℕ → Commodity → Day → ℕ → Bool
@@ -41,7 +41,7 @@ IsSmall z = IsUpTo 10000000000000000 z
 
 -- every sum is as before, and what was open is open
 pub record SameSums (old new : DaySums) : Type 0 where
-  pub sums : (a : List ℕ) (u : Commodity) (p : Period) → sum_of new a u p ≡ sum_of old a u p
+  pub sums : (a : List ℕ) (u : Commodity) (p : Period) → period_sum new a u p ≡ period_sum old a u p
   pub opened : (a : List ℕ) (u : Commodity) (d : Day) (n : ℕ) → is_open old a u d n ≡ true → is_open new a u d n ≡ true
 
 -- what a sum is more by where one account has q more in one commodity, on a day with number n
@@ -53,5 +53,5 @@ share_of account unit day n q a u p = if (nat_eq unit.0 u.0 && bytes_eq account 
 pub record RaisedSums (account : List ℕ) (unit : Commodity) (day : Day) (n : ℕ) (q : ℤ)
     (old new : DaySums) : Type 0 where
   pub sums : (a : List ℕ) (u : Commodity) (p : Period)
-      → sum_of new a u p ≡ sum_of old a u p +ℤ share_of account unit day n q a u p
+      → period_sum new a u p ≡ period_sum old a u p +ℤ share_of account unit day n q a u p
   pub opened : (a : List ℕ) (u : Commodity) (d : Day) (k : ℕ) → is_open old a u d k ≡ true → is_open new a u d k ≡ true

@@ -4,7 +4,8 @@ ghost use Rattle.std.specs.Prelude.{◌≡◌, ◌≤◌, [], ◌∷◌, length,
 ghost use Rattle.std.specs.List.{prefix_len, AllByRecursion};
 ghost use Rattle.std.specs.Result.{IsOkUnless};
 ghost use Rattle.day_sums.specs.declared.points.Point.{Point as Spot};
-ghost use Rattle.day_sums.specs.Points.{is_none, sum_at, has, Ascends, IsUpTo, SamePoints, RaisedPoints, is_before};
+ghost use Rattle.day_sums.specs.Points.{is_none, point_sum, has_point, Ascends, IsUpTo, SamePoints, RaisedPoints};
+ghost use Rattle.day_sums.specs.Points.{is_point_before};
 ghost use Rattle.day_sums.specs.Points.{is_through, base_at, is_there, raised_from};
 
 use money_core::Cause;
@@ -61,7 +62,7 @@ fn count_before(points: &[Point], at: i64) -> usize
     requires rise { Ascends points.now }
     requires small { IsUpTo 4294967296 at }
     ensures bound { result ≤ length points.now }
-    ensures value { result ≡ prefix_len (is_before at) points.now }
+    ensures value { result ≡ prefix_len (is_point_before at) points.now }
 {
     count_through(points, at - 1)
 }
@@ -125,7 +126,7 @@ impl Points {
 
     /// The sum through a number.
     pub fn sum_through(&self, at: i64) -> i64
-        ensures { result ≡ sum_at (pos 0) self.now at }
+        ensures { result ≡ point_sum (pos 0) self.now at }
     {
         let count = count_through(&self.points, at);
         sum_before(&self.points, count)
@@ -135,7 +136,7 @@ impl Points {
     pub fn open(&mut self, at: i64) -> Result<(), Cause>
         requires { IsUpTo 4294967296 at }
         ensures same { SamePoints self.old self.new }
-        ensures open { OnOk result (has at self.new ≡ true) }
+        ensures open { OnOk result (has_point at self.new ≡ true) }
         ensures memory { IsOkUnless result Cause.OutOfMemory }
     {
         let place = count_before(&self.points, at);
@@ -150,8 +151,8 @@ impl Points {
     /// Adds to each sum from a number on, which has its point.
     pub fn raise(&mut self, at: i64, qty: i64)
         requires small { IsUpTo 4294967296 at }
-        requires open { has at self.old ≡ true }
-        requires sums { (d : ℤ) → IsUpTo 40000000000000000 (sum_at (pos 0) self.old d) }
+        requires open { has_point at self.old ≡ true }
+        requires sums { (d : ℤ) → IsUpTo 40000000000000000 (point_sum (pos 0) self.old d) }
         requires qty { IsUpTo 10000000000000000 qty }
         ensures { RaisedPoints at qty self.old self.new }
     {

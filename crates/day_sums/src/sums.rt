@@ -4,7 +4,7 @@ ghost use Rattle.std.specs.Prelude.{◌≡◌, ℕ, List, pos, true, OnOk};
 ghost use Rattle.std.specs.Result.{IsOkUnless};
 ghost use Rattle.money_core.specs.declared.unit.Unit.{Unit as Commodity};
 ghost use Rattle.day_sums.specs.declared.period.Period.{Period as Span};
-ghost use Rattle.day_sums.specs.Sums.{sum_of, is_open, IsSmall, SameSums, RaisedSums};
+ghost use Rattle.day_sums.specs.Sums.{period_sum, is_open, IsSmall, SameSums, RaisedSums};
 
 use crate::names::{open_name, raise_name, sum_by_name};
 use crate::period::Period;
@@ -23,7 +23,7 @@ pub struct DaySums {
 impl DaySums {
     /// Every sum is zero.
     pub fn empty(alloc: Global) -> Self
-        ensures { (a : List ℕ) (u : Commodity) (p : Span) → sum_of result a u p ≡ pos 0 }
+        ensures { (a : List ℕ) (u : Commodity) (p : Span) → period_sum result a u p ≡ pos 0 }
     {
         DaySums {
             alloc,
@@ -36,7 +36,7 @@ impl DaySums {
     /// Costs one search for each of the commodity and the day, for a part of a day one more for the number, and one
     /// look-up for the account.
     pub fn sum(&self, account: &[u8], unit: Unit, period: Period) -> i64
-        ensures { result ≡ sum_of self.now account.now unit period }
+        ensures { result ≡ period_sum self.now account.now unit period }
     {
         match self.units.get(&unit.0) {
             Some(names) => sum_by_name(names, account, period),
@@ -74,7 +74,7 @@ impl DaySums {
     /// Costs one step for each open day after it, and one for each open number after it on its day.
     pub fn raise_row(&mut self, account: &[u8], unit: Unit, day: Day, number: u32, qty: i64)
         requires open { is_open self.old account.now unit day number ≡ true }
-        requires small { (p : Span) → IsSmall (sum_of self.old account.now unit p) }
+        requires small { (p : Span) → IsSmall (period_sum self.old account.now unit p) }
         requires qty { IsSmall qty }
         ensures raised { RaisedSums account.now unit day number qty self.old self.new }
     {

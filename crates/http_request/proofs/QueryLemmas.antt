@@ -10,7 +10,7 @@ use Rattle.std.proofs.lemmas.List.Splits.{slice_split_first, slice_split_none}
 use Rattle.std.proofs.lemmas.List.Sums.{fails_before_first}
 use Rattle.money_core.proofs.RoundTrip.{split_some}
 use Rattle.percent_encoding.specs.Percent.{percent_decode}
-use Rattle.http_request.specs.Query.{is_escaped, decoded, is_key, value_of, wish_in, wish_of}
+use Rattle.http_request.specs.Query.{is_escaped, decoded, is_query_key, query_value, wish_in, wish_of}
 
 -- ---- escapes
 
@@ -49,9 +49,9 @@ lacks_byte c text end =
     (λ i within. fails_before_first (λ b. b == c) text i 0 (subst (λ (n : ℕ). i < n) (sym end) within))
 
 -- a piece without `=` has no key
-pub no_value : (key piece : List ℕ) → position_or_len (λ b. b == 61) piece ≡ length piece → None ≡ value_of key piece
+pub no_value : (key piece : List ℕ) → position_or_len (λ b. b == 61) piece ≡ length piece → None ≡ query_value key piece
 no_value key piece end =
-    sym (ap (λ (e : Bool). if e && is_key key (decoded (before_first (λ b. b == 61) piece))
+    sym (ap (λ (e : Bool). if e && is_query_key key (decoded (before_first (λ b. b == 61) piece))
     then decoded (after_first (λ b. b == 61) piece) else None)
     (list_any_none (λ b. b == 61) piece (lacks_byte 61 piece end)))
 

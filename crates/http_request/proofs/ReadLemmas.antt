@@ -27,8 +27,9 @@ use Rattle.http_request.specs.Foreign.{is_foreign}
 use Rattle.http_request.specs.Accept.{form_of}
 use Rattle.http_request.specs.declared.call.Form.{Form}
 use Rattle.http_request.specs.declared.call.Form.TheVariants as form
-use Rattle.http_request.specs.Call.{Reads, IsStopped, is_foreign_head, length_of, wish_at, Leads, AsksIn, most_read}
-use Rattle.http_request.specs.Calling.{shown, register_by, wanted_at, Wants, CallsBy, LacksBytes}
+use Rattle.http_request.specs.Call.{ReadsCall, IsStopped, is_foreign_head, body_length_of, wish_at, Leads, AsksIn}
+use Rattle.http_request.specs.Call.{most_read}
+use Rattle.http_request.specs.Calling.{route_view, register_by, wanted_at, Wants, CallsBy, LacksBytes}
 use Rattle.http_request.specs.declared.reading.Wanted.{Wanted}
 use Rattle.http_request.specs.declared.reading.Wanted.TheVariants as wanted
 use Rattle.http_request.specs.declared.call.Call.{Call}
@@ -104,7 +105,7 @@ stopped_early r0 r1 text ends =
 
 -- what was read calls for this, in a form
 abbrev pub ReadsAs : Option (List ℕ) → Option (List ℕ) → Form → Call → Type 0
-ReadsAs r0 r1 asked call = Reads r0 r1 (record { call = call; form = asked })
+ReadsAs r0 r1 asked call = ReadsCall r0 r1 (record { call = call; form = asked })
 
 pub read_bad : (r0 r1 : Option (List ℕ)) (text : List ℕ) → IsBad r0 r1 text → ReadsAs r0 r1 form.Text Unreadable
 read_bad r0 r1 text bad =
@@ -274,7 +275,7 @@ module _ (r0 r1 : Option (List ℕ)) (text : List ℕ) (headers : List HeaderSpa
     leads_there = there (λ (m p : List ℕ). LeadsTo m p (commands branch)) leads
 
     size_is : (o : Option ℕ) → body_length (map (header_bytes text) (take spans.headers headers)) ≡ o
-        → length_of h.head ≡ o
+        → body_length_of h.head ≡ o
     size_is o e = sym (ap body_length h.at.fields) ∙ e
 
     still : (more : List ℕ) → Leads (text ++ more) h.head (h.rest ++ more) (commands branch)
@@ -366,9 +367,9 @@ module _ (r0 r1 : Option (List ℕ)) (text : List ℕ) (headers : List HeaderSpa
 
 -- what was found by an equal method
 pub route_told : (found : Option Route) (m n path : List ℕ) → n ≡ m
-    → IfSome found (λ route. LeadsTo n path (shown route)) → (found ≡ None → HasNoRoute n path)
-    → MatchOption found (HasNoRoute m path) (λ route. LeadsTo m path (shown route))
-route_told (Some route) m n path same leads none = subst (λ (t : List ℕ). LeadsTo t path (shown route)) same leads
+    → IfSome found (λ route. LeadsTo n path (route_view route)) → (found ≡ None → HasNoRoute n path)
+    → MatchOption found (HasNoRoute m path) (λ route. LeadsTo m path (route_view route))
+route_told (Some route) m n path same leads none = subst (λ (t : List ℕ). LeadsTo t path (route_view route)) same leads
 route_told None m n path same leads none = subst (λ (t : List ℕ). HasNoRoute t path) same (none refl)
 
 -- what a method and an equal target call for
@@ -378,10 +379,10 @@ wanted_told found m n p q same alike wants =
 
 -- what a route calls for, and what nothing does
 pub wants_told : {E : Type 0} (result : Result Wanted E) (m target query : List ℕ) (route : Route)
-    → LeadsTo m (path_of target) (shown route) → query ≡ query_of target
-    → IfOk result (λ found. found ≡ wanted_at query (shown route)) → IfOk result (Wants m target)
+    → LeadsTo m (path_of target) (route_view route) → query ≡ query_of target
+    → IfOk result (λ found. found ≡ wanted_at query (route_view route)) → IfOk result (Wants m target)
 wants_told (Ok found) m target query route leads same is =
-    inr (shown route, leads, is ∙ ap (λ (q : List ℕ). wanted_at q (shown route)) same)
+    inr (route_view route, leads, is ∙ ap (λ (q : List ℕ). wanted_at q (route_view route)) same)
 wants_told (Err e) m target query route leads same is = tt
 
 pub wants_nowhere : (m target : List ℕ) → HasNoRoute m (path_of target) → Wants m target (wanted.Whole Nowhere)

@@ -11,7 +11,7 @@ use Rattle.matchit.specs.Seek.{first, seek, param_step, has_slash, own, step, or
 use Rattle.matchit.specs.Rows.{RowsOf}
 use Rattle.matchit.specs.Router.{RouteOf}
 use Rattle.http_request.specs.declared.routes.Shape.{Shape}
-use Rattle.http_request.specs.Routes.{is_part, Routed, commands, balance, journal, transit, branches, commodities}
+use Rattle.http_request.specs.Routes.{is_path_part, Routed, commands, balance, journal, transit, branches, commodities}
 use Rattle.http_request.specs.Routes.{accounts, transfers, register, LeadsTo}
 use Rattle.http_request.specs.Rows.{shape_rows, name_row, parts_row, shape_of}
 
@@ -143,7 +143,7 @@ parts_found path front (b ∷ bs) bytes is some behind =
     let byte : b < 256 = subst (λ (n : ℕ). n < 256) at (bytes (length front)) in
     (parts_row, ap (first shape_rows) is ∙ (behind (b ∷ bs) ∙ takes-rest parts_row b bs byte), refl)
 
-has_bytes : (part : List ℕ) → is_part part ≡ true → 0 < length part
+has_bytes : (part : List ℕ) → is_path_part part ≡ true → 0 < length part
 has_bytes [] e = absurd cc
 has_bytes (b ∷ bs) e = omega arith
 
@@ -192,28 +192,28 @@ cut_once (a ∷ x) y (b ∷ one) two p q e =
 
 pub parts_told : (path front rest x y : List ℕ) (o : Option (Bor (List ℕ) × Bor (List ℕ))) → path ≡ front ++ rest
     → rest ≡ x ++ 47 ∷ y → ((i : ℕ) → i < length x → get_or x i 0 ≢ 47)
-    → MatchOption o ((is_part x && is_part y) ≡ false)
-    (λ p. (p.0.now ≡ x) × (p.1.now ≡ y) × (is_part x ≡ true) × (is_part y ≡ true))
-    → MatchOption o ((one : List ℕ) → (two : List ℕ) → is_part one ≡ true → is_part two ≡ true
+    → MatchOption o ((is_path_part x && is_path_part y) ≡ false)
+    (λ p. (p.0.now ≡ x) × (p.1.now ≡ y) × (is_path_part x ≡ true) × (is_path_part y ≡ true))
+    → MatchOption o ((one : List ℕ) → (two : List ℕ) → is_path_part one ≡ true → is_path_part two ≡ true
     → path ≢ front ++ (one ++ 47 ∷ two))
-    (λ p. (path ≡ front ++ (p.0.now ++ 47 ∷ p.1.now)) × (is_part p.0.now ≡ true) × (is_part p.1.now ≡ true))
+    (λ p. (path ≡ front ++ (p.0.now ++ 47 ∷ p.1.now)) × (is_path_part p.0.now ≡ true) × (is_path_part p.1.now ≡ true))
 parts_told path front rest x y None whole cut none told = λ one two good fine e.
     let tail : x ++ 47 ∷ y ≡ one ++ 47 ∷ two =
     sym cut ∙ append_cancel_left front rest (one ++ 47 ∷ two) (sym whole ∙ e) in
     let same = cut_once x y one two none (no_slash_at one (not-true _ (and_parts _ _ good).1)) tail in
-    let first_good : is_part x ≡ true = ap is_part same.0 ∙ good in
-    let second_good : is_part y ≡ true = ap is_part same.1 ∙ fine in
-    absurd (let t : (is_part x && is_part y) ≡ true =
-    ap (λ (v : Bool). v && is_part y) first_good ∙ second_good in let f : true ≡ false = sym t ∙ told in cc)
+    let first_good : is_path_part x ≡ true = ap is_path_part same.0 ∙ good in
+    let second_good : is_path_part y ≡ true = ap is_path_part same.1 ∙ fine in
+    absurd (let t : (is_path_part x && is_path_part y) ≡ true =
+    ap (λ (v : Bool). v && is_path_part y) first_good ∙ second_good in let f : true ≡ false = sym t ∙ told in cc)
 parts_told path front rest x y (Some p) whole cut none told = (
   whole ∙ ap (λ (t : List ℕ). front ++ t)
       (cut ∙ (ap (λ (t : List ℕ). t ++ 47 ∷ y) (sym told.0) ∙ ap (λ (t : List ℕ). p.0.now ++ 47 ∷ t) (sym told.1))),
-  ap is_part told.0 ∙ told.2,
-  ap is_part told.1 ∙ told.3,
+  ap is_path_part told.0 ∙ told.2,
+  ap is_path_part told.1 ∙ told.3,
 )
 
 pub none_told : (path front rest : List ℕ) → path ≡ front ++ rest → ((i : ℕ) → i < length rest → get_or rest i 0 ≢ 47)
-    → (one two : List ℕ) → is_part one ≡ true → is_part two ≡ true → path ≢ front ++ (one ++ 47 ∷ two)
+    → (one two : List ℕ) → is_path_part one ≡ true → is_path_part two ≡ true → path ≢ front ++ (one ++ 47 ∷ two)
 none_told path front rest whole none one two good fine = λ e.
     let tail : rest ≡ one ++ 47 ∷ two = append_cancel_left front rest (one ++ 47 ∷ two) (sym whole ∙ e) in
     let at : get_or rest (length one) 0 ≡ 47 =

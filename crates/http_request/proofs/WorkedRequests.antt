@@ -4,7 +4,7 @@ use Rattle.std.specs.Str.{is_utf8, chars}
 use lib.Utf8.{encode}
 use Rattle.percent_encoding.specs.Percent.{percent_decode}
 use Rattle.http_request.specs.Path.{path_of}
-use Rattle.http_request.specs.Routes.{LeadsTo, commands, balance, branches, transfers, is_part}
+use Rattle.http_request.specs.Routes.{LeadsTo, commands, balance, branches, transfers, is_path_part}
 use Rattle.http_request.specs.Query.{query_of, decoded, wish_of}
 use Rattle.http_request.specs.declared.query.Wish.{Wish}
 use Rattle.http_request.specs.Length.{body_length}
@@ -17,7 +17,7 @@ query = (refl, refl)
 
 -- parts stand as they are, and hold no slash
 pub parts : LeadsTo (codes "GET") (codes "/balance/%6eorth/2024.1.5") (balance (codes "%6eorth") (codes "2024.1.5"))
-    × (is_part (codes "2024/01/05") ≡ false) × (is_part [] ≡ false)
+    × (is_path_part (codes "2024/01/05") ≡ false) × (is_path_part [] ≡ false)
 parts = ((refl, refl, refl, refl), refl, refl)
 
 -- reports on all branches

@@ -23,8 +23,8 @@ use Rattle.http_request.specs.declared.call.Call.TheVariants.{Transit, Branches,
 use Rattle.http_request.specs.declared.call.Call.TheVariants.{Register}
 
 -- how long the body of a command is
-abbrev pub length_of : RequestHead → Option ℕ
-length_of head = body_length (map name_and_value head.fields)
+abbrev pub body_length_of : RequestHead → Option ℕ
+body_length_of head = body_length (map name_and_value head.fields)
 
 -- it is foreign, by its fields
 abbrev pub is_foreign_head : RequestHead → Bool
@@ -50,7 +50,7 @@ abbrev pub Calls : List ℕ → Call → Type 0
 Calls seen Unreadable =
     NeverHead seen
     ⊎ ((head : RequestHead) × (rest : List ℕ) × (branch : Option (List ℕ)) × Leads seen head rest (commands branch)
-    × (length_of head ≡ None))
+    × (body_length_of head ≡ None))
     ⊎ ((head : RequestHead) × (rest : List ℕ) × (branch : List ℕ) × Leads seen head rest (register branch)
     × (wish_at head ≡ None))
 Calls seen Foreign = (head : RequestHead) × (rest : List ℕ) × IsHead seen head rest × (is_foreign_head head ≡ true)
@@ -59,7 +59,7 @@ Calls seen Nowhere =
     × HasNoRoute head.method (path_of head.target)
 Calls seen (Command branch body) =
     (head : RequestHead) × (rest : List ℕ) × (n : ℕ) × Leads seen head rest (commands branch)
-    × (length_of head ≡ Some n)
+    × (body_length_of head ≡ Some n)
     × (n ≤ length rest) × (body ≡ take n rest)
 Calls seen (Balance branch date) = LeadTo seen (balance branch date)
 Calls seen (Journal branch) = LeadTo seen (journal branch)
@@ -98,7 +98,7 @@ AsksIn seen asked =
     ⊎ (NeverHead seen × (asked ≡ form.Text))
 
 -- what was read calls for this, and asks for its reply in this form
-pub record Reads (r0 r1 : Option (List ℕ)) (received : Received) : Type 0 where
+pub record ReadsCall (r0 r1 : Option (List ℕ)) (received : Received) : Type 0 where
   pub seen : List ℕ
   pub read : Consumes r0 r1 seen
   pub bounded : length seen ≤ most_read
@@ -112,7 +112,7 @@ abbrev pub IsCutOff : List ℕ → Type 0
 IsCutOff seen =
     (HasNoRequest seen × (CanEnd seen ⊎ ((spaces seen ≡ 1) × MayBecomeRequest seen)))
     ⊎ ((head : RequestHead) × (rest : List ℕ) × (branch : Option (List ℕ)) × (n : ℕ)
-    × Leads seen head rest (commands branch) × (length_of head ≡ Some n) × (length rest < n))
+    × Leads seen head rest (commands branch) × (body_length_of head ≡ Some n) × (length rest < n))
 
 -- a first part of a request was read
 pub record IsStopped (r0 r1 : Option (List ℕ)) : Type 0 where

@@ -15,17 +15,17 @@ use Rattle.http_request.specs.declared.call.Call.TheVariants.{Unreadable, Nowher
 use Rattle.http_request.specs.declared.call.Call.TheVariants.{Branches, Commodities, Accounts, Transfers, Register}
 
 -- a route, with the parts of its path
-abbrev pub shown : Route → Routed
-shown made.Commands = commands None
-shown (made.CommandsOf branch) = commands (Some branch.now)
-shown (made.Balance branch date) = balance branch.now date.now
-shown (made.Journal branch) = journal branch.now
-shown (made.Register branch) = register branch.now
-shown (made.Transit date) = transit date.now
-shown made.Branches = branches
-shown made.Commodities = commodities
-shown (made.Accounts branch) = accounts branch.now
-shown (made.Transfers date) = transfers date.now
+abbrev pub route_view : Route → Routed
+route_view made.Commands = commands None
+route_view (made.CommandsOf branch) = commands (Some branch.now)
+route_view (made.Balance branch date) = balance branch.now date.now
+route_view (made.Journal branch) = journal branch.now
+route_view (made.Register branch) = register branch.now
+route_view (made.Transit date) = transit date.now
+route_view made.Branches = branches
+route_view made.Commodities = commodities
+route_view (made.Accounts branch) = accounts branch.now
+route_view (made.Transfers date) = transfers date.now
 
 -- what is called for of the register of a branch
 abbrev pub register_by : List ℕ → Option Wish → Call

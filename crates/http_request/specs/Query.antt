@@ -30,16 +30,17 @@ decoded written =
     if is_escaped written && is_utf8 (percent_decode written) then Some (percent_decode written) else None
 
 -- what stands before the first `=` is this key
-abbrev pub is_key : List ℕ → Option (List ℕ) → Bool
-is_key key None = false
-is_key key (Some name) = bytes_eq name key
+abbrev pub is_query_key : List ℕ → Option (List ℕ) → Bool
+is_query_key key None = false
+is_query_key key (Some name) = bytes_eq name key
 
-abbrev pub has_key : List ℕ → List ℕ → Bool
-has_key key piece = list_any (λ b. b == 61) piece && is_key key (decoded (before_first (λ b. b == 61) piece))
+abbrev pub has_query_key : List ℕ → List ℕ → Bool
+has_query_key key piece =
+    list_any (λ b. b == 61) piece && is_query_key key (decoded (before_first (λ b. b == 61) piece))
 
 -- the value that a piece of a query has for a key: the key, `=`, and the value
-abbrev pub value_of : List ℕ → List ℕ → Option (List ℕ)
-value_of key piece = if has_key key piece then decoded (after_first (λ b. b == 61) piece) else None
+abbrev pub query_value : List ℕ → List ℕ → Option (List ℕ)
+query_value key piece = if has_query_key key piece then decoded (after_first (λ b. b == 61) piece) else None
 
 -- an account and a tag, where both are there
 abbrev pub with_tag : Option (List ℕ) → Option (List ℕ) → Option Wish
@@ -61,10 +62,10 @@ either (Some wish) other = Some wish
 -- have a key that is unknown, or there twice
 abbrev pub wish_in : List (List ℕ) → Option Wish
 wish_in [] = None
-wish_in (piece ∷ []) = without_tag (value_of (codes "account") piece)
+wish_in (piece ∷ []) = without_tag (query_value (codes "account") piece)
 wish_in (one ∷ two ∷ []) =
-    either (with_tag (value_of (codes "account") one) (value_of (codes "tag") two))
-    (with_tag (value_of (codes "account") two) (value_of (codes "tag") one))
+    either (with_tag (query_value (codes "account") one) (query_value (codes "tag") two))
+    (with_tag (query_value (codes "account") two) (query_value (codes "tag") one))
 wish_in (one ∷ two ∷ three ∷ more) = None
 
 -- what a query asks a register of: `&` divides its pieces

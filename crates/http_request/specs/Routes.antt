@@ -4,8 +4,8 @@ use Rattle.std.specs.Prelude.{Some, None}
 use Rattle.std.specs.List.{list_any}
 
 -- a part of a path in braces: at least one byte, and no slash
-abbrev pub is_part : List ℕ → Bool
-is_part part = nat_lt 0 (length part) && not (list_any (λ b. b == 47) part)
+abbrev pub is_path_part : List ℕ → Bool
+is_path_part part = nat_lt 0 (length part) && not (list_any (λ b. b == 47) part)
 
 -- the routes, with the parts of their paths; that of commands has a branch where it is for those of that branch
 pub data Routed : Type 0 where
@@ -23,21 +23,22 @@ pub data Routed : Type 0 where
 abbrev pub LeadsTo : List ℕ → List ℕ → Routed → Type 0
 LeadsTo method path (commands None) = (method ≡ codes "POST") × (path ≡ codes "/commands")
 LeadsTo method path (commands (Some branch)) =
-    (method ≡ codes "POST") × (path ≡ codes "/commands/" ++ branch) × (is_part branch ≡ true)
+    (method ≡ codes "POST") × (path ≡ codes "/commands/" ++ branch) × (is_path_part branch ≡ true)
 LeadsTo method path (balance branch date) =
-    (method ≡ codes "GET") × (path ≡ codes "/balance/" ++ branch ++ 47 ∷ date) × (is_part branch ≡ true)
-    × (is_part date ≡ true)
+    (method ≡ codes "GET") × (path ≡ codes "/balance/" ++ branch ++ 47 ∷ date) × (is_path_part branch ≡ true)
+    × (is_path_part date ≡ true)
 LeadsTo method path (journal branch) =
-    (method ≡ codes "GET") × (path ≡ codes "/journal/" ++ branch) × (is_part branch ≡ true)
+    (method ≡ codes "GET") × (path ≡ codes "/journal/" ++ branch) × (is_path_part branch ≡ true)
 LeadsTo method path (register branch) =
-    (method ≡ codes "GET") × (path ≡ codes "/register/" ++ branch) × (is_part branch ≡ true)
-LeadsTo method path (transit date) = (method ≡ codes "GET") × (path ≡ codes "/transit/" ++ date) × (is_part date ≡ true)
+    (method ≡ codes "GET") × (path ≡ codes "/register/" ++ branch) × (is_path_part branch ≡ true)
+LeadsTo method path (transit date) =
+    (method ≡ codes "GET") × (path ≡ codes "/transit/" ++ date) × (is_path_part date ≡ true)
 LeadsTo method path branches = (method ≡ codes "GET") × (path ≡ codes "/branches")
 LeadsTo method path commodities = (method ≡ codes "GET") × (path ≡ codes "/commodities")
 LeadsTo method path (accounts branch) =
-    (method ≡ codes "GET") × (path ≡ codes "/accounts/" ++ branch) × (is_part branch ≡ true)
+    (method ≡ codes "GET") × (path ≡ codes "/accounts/" ++ branch) × (is_path_part branch ≡ true)
 LeadsTo method path (transfers date) =
-    (method ≡ codes "GET") × (path ≡ codes "/transfers/" ++ date) × (is_part date ≡ true)
+    (method ≡ codes "GET") × (path ≡ codes "/transfers/" ++ date) × (is_path_part date ≡ true)
 
 -- they lead to none
 abbrev pub HasNoRoute : List ℕ → List ℕ → Type 0

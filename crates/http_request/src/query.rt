@@ -2,7 +2,7 @@
 
 ghost use Rattle.std.specs.Prelude.{◌≡◌, ◌∷◌, [], IfOk, codes};
 ghost use Rattle.std.specs.Result.{IsOkUnless};
-ghost use Rattle.http_request.specs.Query.{query_of, begins_with_digits, is_escaped, decoded, value_of, with_tag};
+ghost use Rattle.http_request.specs.Query.{query_of, begins_with_digits, is_escaped, decoded, query_value, with_tag};
 ghost use Rattle.http_request.specs.Query.{without_tag, wish_in, wish_of};
 
 use money_core::{Cause, Text};
@@ -74,7 +74,7 @@ fn decoded(alloc: Global, written: &str) -> Result<Option<Text>, Cause>
 
 /// The value that a piece of a query has for a key.
 fn value_of(alloc: Global, key: &str, piece: &str) -> Result<Option<Text>, Cause>
-    ensures value { IfOk result (λ value. value ≡ value_of key.now piece.now) }
+    ensures value { IfOk result (λ value. value ≡ query_value key.now piece.now) }
     ensures memory { IsOkUnless result Cause.OutOfMemory }
 {
     let Some((name, value)) = piece.split_once('=') else {
@@ -89,7 +89,7 @@ fn value_of(alloc: Global, key: &str, piece: &str) -> Result<Option<Text>, Cause
 
 /// The account that a piece names, without a tag.
 fn without_tag(alloc: Global, account: &str) -> Result<Option<Wish>, Cause>
-    ensures value { IfOk result (λ wish. wish ≡ without_tag (value_of (codes "account") account.now)) }
+    ensures value { IfOk result (λ wish. wish ≡ without_tag (query_value (codes "account") account.now)) }
     ensures memory { IsOkUnless result Cause.OutOfMemory }
 {
     match value_of(alloc, "account", account) {
@@ -102,7 +102,7 @@ fn without_tag(alloc: Global, account: &str) -> Result<Option<Wish>, Cause>
 /// The account that one piece names, and the tag that the other names.
 fn with_tag(alloc: Global, account: &str, tag: &str) -> Result<Option<Wish>, Cause>
     ensures value { IfOk result (λ wish.
-        wish ≡ with_tag (value_of (codes "account") account.now) (value_of (codes "tag") tag.now)) }
+        wish ≡ with_tag (query_value (codes "account") account.now) (query_value (codes "tag") tag.now)) }
     ensures memory { IsOkUnless result Cause.OutOfMemory }
 {
     let account = match value_of(alloc, "account", account) {

@@ -7,8 +7,8 @@ ghost use Rattle.httparse.specs.Spans.{IsRequestWithin, header_bytes};
 ghost use Rattle.http_request.specs.Foreign.{is_foreign};
 ghost use Rattle.http_request.specs.Accept.{form_of};
 ghost use Rattle.http_request.specs.Query.{wish_of};
-ghost use Rattle.http_request.specs.Call.{Reads, IsStopped};
-ghost use Rattle.http_request.specs.Calling.{shown, register_by, wanted_at, Wants, CallsBy, LacksBytes};
+ghost use Rattle.http_request.specs.Call.{ReadsCall, IsStopped};
+ghost use Rattle.http_request.specs.Calling.{route_view, register_by, wanted_at, Wants, CallsBy, LacksBytes};
 
 use crate::accept::form_of;
 use crate::body::read_body;
@@ -53,7 +53,7 @@ fn register_by(alloc: Global, branch: &str, query: &str) -> Result<Call, Cause>
 
 /// What a route calls for with this query.
 fn wanted_at(alloc: Global, route: Route<'_>, query: &str) -> Result<Wanted, Cause>
-    ensures value { IfOk result (λ wanted. wanted ≡ wanted_at query.now (shown route.entry)) }
+    ensures value { IfOk result (λ wanted. wanted ≡ wanted_at query.now (route_view route.entry)) }
     ensures memory { IsOkUnless result Cause.OutOfMemory }
 {
     match route {
@@ -158,7 +158,7 @@ fn form_of_head(text: &[u8], headers: &[HeaderSpan], spans: &RequestSpans) -> Fo
 /// read fails, whatever its error, or the input ends, before the request is there; where no bytes could have made it
 /// one, it is `Unreadable`. 40 comes where there is no memory for its text.
 pub fn read_call<R: Read>(alloc: Global, reader: &mut R) -> Result<Received, Cause>
-    ensures ok { IfOk result (Reads (R.remaining reader.old) (R.remaining reader.new)) }
+    ensures ok { IfOk result (ReadsCall (R.remaining reader.old) (R.remaining reader.new)) }
     ensures early { result ≡ Err Cause.ReadFault → IsStopped (R.remaining reader.old) (R.remaining reader.new) }
     ensures causes { IfErr result (λ cause. (cause ≡ Cause.ReadFault) ⊎ (cause ≡ Cause.OutOfMemory)) }
 {

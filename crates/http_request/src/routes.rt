@@ -4,8 +4,8 @@ ghost use Rattle.std.specs.Prelude.{◌≡◌, ◌≢◌, ◌++◌, ◌∷◌, �
 ghost use Rattle.std.specs.Prelude.{MatchOption};
 ghost use Rattle.std.specs.Result.{IsOkUnless};
 ghost use Rattle.http_header.specs.Token.{IsToken};
-ghost use Rattle.http_request.specs.Routes.{is_part, LeadsTo, HasNoRoute};
-ghost use Rattle.http_request.specs.Calling.{shown};
+ghost use Rattle.http_request.specs.Routes.{is_path_part, LeadsTo, HasNoRoute};
+ghost use Rattle.http_request.specs.Calling.{route_view};
 ghost use Rattle.http_request.specs.Rows.{shape_rows, HasNoRouteOf};
 
 use http::Method;
@@ -52,15 +52,15 @@ fn make_shapes(alloc: Global) -> Result<Router<Shape>, InsertError>
 
 /// Whether the text can stand for a part of a path in braces.
 fn is_part(text: &str) -> bool
-    ensures { result ≡ is_part text.now }
+    ensures { result ≡ is_path_part text.now }
 {
     !text.is_empty() && !text.as_bytes().contains(&b'/')
 }
 
 /// The part of the path after its front, where nothing else follows.
 fn part_behind<'p>(path: &'p str, front: &str) -> Option<&'p str>
-    ensures { MatchOption result ((part : List ℕ) → is_part part ≡ true → path.now ≢ front.now ++ part)
-        (λ part. (path.now ≡ front.now ++ part.now) × (is_part part.now ≡ true)) }
+    ensures { MatchOption result ((part : List ℕ) → is_path_part part ≡ true → path.now ≢ front.now ++ part)
+        (λ part. (path.now ≡ front.now ++ part.now) × (is_path_part part.now ≡ true)) }
 {
     match path.strip_prefix(front) {
         Some(part) if is_part(part) => Some(part),
@@ -70,9 +70,9 @@ fn part_behind<'p>(path: &'p str, front: &str) -> Option<&'p str>
 
 /// Both texts, where each can stand for a part of a path.
 fn both_parts<'p>(one: &'p str, two: &'p str) -> Option<(&'p str, &'p str)>
-    ensures { MatchOption result ((is_part one.now && is_part two.now) ≡ false)
-        (λ parts. (parts.0.now ≡ one.now) × (parts.1.now ≡ two.now) × (is_part one.now ≡ true)
-        × (is_part two.now ≡ true)) }
+    ensures { MatchOption result ((is_path_part one.now && is_path_part two.now) ≡ false)
+        (λ parts. (parts.0.now ≡ one.now) × (parts.1.now ≡ two.now) × (is_path_part one.now ≡ true)
+        × (is_path_part two.now ≡ true)) }
 {
     if is_part(one) && is_part(two) {
         Some((one, two))
@@ -83,10 +83,10 @@ fn both_parts<'p>(one: &'p str, two: &'p str) -> Option<(&'p str, &'p str)>
 
 /// The two parts of the path after its front, with a slash between them, where nothing else follows.
 fn parts_behind<'p>(path: &'p str, front: &str) -> Option<(&'p str, &'p str)>
-    ensures { MatchOption result ((one : List ℕ) → (two : List ℕ) → is_part one ≡ true → is_part two ≡ true
+    ensures { MatchOption result ((one : List ℕ) → (two : List ℕ) → is_path_part one ≡ true → is_path_part two ≡ true
         → path.now ≢ front.now ++ (one ++ 47 ∷ two))
-        (λ parts. (path.now ≡ front.now ++ (parts.0.now ++ 47 ∷ parts.1.now)) × (is_part parts.0.now ≡ true)
-        × (is_part parts.1.now ≡ true)) }
+        (λ parts. (path.now ≡ front.now ++ (parts.0.now ++ 47 ∷ parts.1.now)) × (is_path_part parts.0.now ≡ true)
+        × (is_path_part parts.1.now ≡ true)) }
 {
     let rest = match path.strip_prefix(front) {
         Some(rest) => rest,
@@ -100,7 +100,7 @@ fn parts_behind<'p>(path: &'p str, front: &str) -> Option<(&'p str, &'p str)>
 
 /// The route of a method and a path that is a name alone.
 fn route_of_name<'p>(method: &Method, path: &str) -> Option<Route<'p>>
-    ensures found { IfSome result (λ route. LeadsTo method.now path.now (shown route)) }
+    ensures found { IfSome result (λ route. LeadsTo method.now path.now (route_view route)) }
     ensures missing { result ≡ None → HasNoRouteOf Shape.Name method.now path.now }
 {
     match method.as_str() {
@@ -113,7 +113,7 @@ fn route_of_name<'p>(method: &Method, path: &str) -> Option<Route<'p>>
 
 /// The route of a `GET` of a path with parts.
 fn report_of_parts<'p>(path: &'p str) -> Option<Route<'p>>
-    ensures found { IfSome result (λ route. LeadsTo (codes "GET") path.now (shown route)) }
+    ensures found { IfSome result (λ route. LeadsTo (codes "GET") path.now (route_view route)) }
     ensures missing { result ≡ None → HasNoRouteOf Shape.Parts (codes "GET") path.now }
 {
     if let Some((branch, date)) = parts_behind(path, "/balance/") {
@@ -139,7 +139,7 @@ fn report_of_parts<'p>(path: &'p str) -> Option<Route<'p>>
 
 /// The route of a `POST` to a path with parts.
 fn command_of_parts<'p>(path: &'p str) -> Option<Route<'p>>
-    ensures found { IfSome result (λ route. LeadsTo (codes "POST") path.now (shown route)) }
+    ensures found { IfSome result (λ route. LeadsTo (codes "POST") path.now (route_view route)) }
     ensures missing { result ≡ None → HasNoRouteOf Shape.Parts (codes "POST") path.now }
 {
     match part_behind(path, "/commands/") {
@@ -150,7 +150,7 @@ fn command_of_parts<'p>(path: &'p str) -> Option<Route<'p>>
 
 /// The route of a method and a path with parts.
 fn route_of_parts<'p>(method: &Method, path: &'p str) -> Option<Route<'p>>
-    ensures found { IfSome result (λ route. LeadsTo method.now path.now (shown route)) }
+    ensures found { IfSome result (λ route. LeadsTo method.now path.now (route_view route)) }
     ensures missing { result ≡ None → HasNoRouteOf Shape.Parts method.now path.now }
 {
     match method.as_str() {
@@ -162,7 +162,7 @@ fn route_of_parts<'p>(method: &Method, path: &'p str) -> Option<Route<'p>>
 
 /// The route of a method and a path of this shape.
 fn route_of_shape<'p>(shape: Shape, method: &Method, path: &'p str) -> Option<Route<'p>>
-    ensures found { IfSome result (λ route. LeadsTo method.now path.now (shown route)) }
+    ensures found { IfSome result (λ route. LeadsTo method.now path.now (route_view route)) }
     ensures missing { result ≡ None → HasNoRouteOf shape method.now path.now }
 {
     match shape {
@@ -174,7 +174,7 @@ fn route_of_shape<'p>(shape: Shape, method: &Method, path: &'p str) -> Option<Ro
 /// The route that a method and a path lead to, by a router of shapes; `None` exactly where there is none.
 fn route_of<'p>(router: &Router<Shape>, method: &Method, path: &'p str) -> Option<Route<'p>>
     requires { router.now ≡ shape_rows }
-    ensures found { IfSome result (λ route. LeadsTo method.now path.now (shown route)) }
+    ensures found { IfSome result (λ route. LeadsTo method.now path.now (route_view route)) }
     ensures missing { result ≡ None → HasNoRoute method.now path.now }
 {
     match router.at(path) {
@@ -190,7 +190,7 @@ pub fn find_route<'p>(
     path: &'p str,
 ) -> Result<Option<Route<'p>>, Cause>
     ensures found { IfOk result (λ found.
-        MatchOption found (HasNoRoute method.now path.now) (λ route. LeadsTo method.now path.now (shown route))) }
+        MatchOption found (HasNoRoute method.now path.now) (λ route. LeadsTo method.now path.now (route_view route))) }
     // What is no method leads nowhere, whether or not there is memory.
     ensures token { (IsToken method.now → ⊥) → result ≡ Ok None }
     ensures memory { IsOkUnless result Cause.OutOfMemory }

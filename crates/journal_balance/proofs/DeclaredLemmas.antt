@@ -20,7 +20,7 @@ use Rattle.journal_format.specs.declared.txn.Txn.{Txn}
 use Rattle.journal_format.specs.Printable.{is_amount, is_price_or_none, is_claim_or_none, is_value, is_posting}
 use Rattle.journal_format.proofs.MoreStylesLemmas.{declared_amount}
 use Rattle.journal_balance.specs.Legs.{commodities, leg, rest_leg, sum_of, amount_legs, posting_legs, legs_among}
-use Rattle.journal_balance.specs.Legs.{placed, claims_among, legs_of}
+use Rattle.journal_balance.specs.Legs.{placed, claims_among, balanced_entry}
 use Rattle.journal_balance.proofs.FaultLemmas.{legs_found}
 use Rattle.journal_balance.proofs.LimitLemmas.{amount_ok}
 use Rattle.journal_balance.proofs.ValueLemmas.{price_declared}
@@ -105,7 +105,7 @@ with_size styles [] h k = tt
 with_size styles (x ∷ xs) h k = (record { known = h.0; size = k.0 }, with_size styles xs h.1 k.1)
 
 pub entry_declared : (styles : List Style) (t : Txn) (e : Entry) → list_all (is_posting styles) t.postings ≡ true
-    → legs_of styles t ≡ Ok e
+    → balanced_entry styles t ≡ Ok e
     → AllByRecursion (λ (x : Leg). IsDeclared styles x.unit x.qty) e.legs
 entry_declared styles t e ok h =
     let found = legs_found styles t e h in
@@ -113,7 +113,7 @@ entry_declared styles t e ok h =
     (legs_known styles t.postings t.postings ok)) (entry_small styles t e h)
 
 pub entry_asserts : (styles : List Style) (t : Txn) (e : Entry) → list_all (is_posting styles) t.postings ≡ true
-    → legs_of styles t ≡ Ok e
+    → balanced_entry styles t ≡ Ok e
     → AllByRecursion (IsSayable styles) e.claims
 entry_asserts styles t e ok h =
     let found = legs_found styles t e h in

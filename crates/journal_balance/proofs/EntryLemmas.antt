@@ -12,7 +12,7 @@ use Rattle.book_core.specs.declared.claim.Placed.{Placed}
 use Rattle.book_core.specs.GoodBook.{IsFit}
 use Rattle.journal_format.specs.declared.txn.Txn.{Txn}
 use Rattle.journal_format.specs.Printable.{is_posting}
-use Rattle.journal_balance.specs.Legs.{is_large, legs_among, claims_among, entry_of, legs_of}
+use Rattle.journal_balance.specs.Legs.{is_large, legs_among, claims_among, entry_of, balanced_entry}
 use Rattle.journal_balance.proofs.FaultLemmas.{HasNoFault, legs_found}
 use Rattle.journal_balance.proofs.ValueLemmas.{legs_balanced}
 use Rattle.journal_balance.proofs.ClaimLemmas.{IsBetween, claims_apart}
@@ -29,7 +29,7 @@ on_legs n [] h = tt
 on_legs n (x ∷ xs) h = ((h.0.0, omega (arith, h.0.1)), on_legs n xs h.1)
 
 pub entry_fit : (styles : List Style) (t : Txn) (e : Entry) → list_all (is_posting styles) t.postings ≡ true
-    → legs_of styles t ≡ Ok e → IsFit e
+    → balanced_entry styles t ≡ Ok e → IsFit e
 entry_fit styles t e ok h =
     let found = legs_found styles t e h in
     let apart = claims_apart styles t.postings 1 t.postings ok in
@@ -39,12 +39,12 @@ entry_fit styles t e ok h =
       apart = apart.1;
     })
 
-pub entry_small : (styles : List Style) (t : Txn) (e : Entry) → legs_of styles t ≡ Ok e
+pub entry_small : (styles : List Style) (t : Txn) (e : Entry) → balanced_entry styles t ≡ Ok e
     → AllByRecursion (λ (x : Leg). unsigned_abs x.qty ≤ limit) e.legs
 entry_small styles t e h =
     let found = legs_found styles t e h in
     subst (λ (x : Entry). AllByRecursion (λ (y : Leg). unsigned_abs y.qty ≤ limit) x.legs) found.1
     (all_small _ found.0.small)
 
-pub entry_day : (styles : List Style) (t : Txn) (e : Entry) → legs_of styles t ≡ Ok e → e.day ≡ t.day
+pub entry_day : (styles : List Style) (t : Txn) (e : Entry) → balanced_entry styles t ≡ Ok e → e.day ≡ t.day
 entry_day styles t e h = let found = legs_found styles t e h in ap (λ (x : Entry). x.day) (sym found.1)

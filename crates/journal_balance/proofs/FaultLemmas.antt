@@ -10,15 +10,16 @@ use Rattle.money_core.specs.declared.cause.Cause.TheVariants.{TwoBlanks, Unbalan
 use Rattle.book_core.specs.declared.entry.Entry.{Entry}
 use Rattle.money_core.proofs.AmountPrint.{ok_same}
 use Rattle.journal_format.specs.declared.txn.Txn.{Txn}
-use Rattle.journal_balance.specs.Legs.{is_open, is_large, is_even, legs_among, cost_fault, balancing_fault, entry_of}
-use Rattle.journal_balance.specs.Legs.{unless, legs_of}
+use Rattle.journal_balance.specs.Legs.{is_without_amount, is_large, is_even, legs_among, cost_fault, balancing_fault}
+use Rattle.journal_balance.specs.Legs.{entry_of}
+use Rattle.journal_balance.specs.Legs.{entry_unless, balanced_entry}
 
 -- what no fault says: at most one posting without an amount, no faulty cost, values that sum to zero or a posting that
 -- takes what is left, no leg over the limit
 pub record HasNoFault (styles : List Style) (t : Txn) : Type 0 where
-  pub one : nat_lt 1 (count_by is_open t.postings) ≡ false
+  pub one : nat_lt 1 (count_by is_without_amount t.postings) ≡ false
   pub costs : cost_fault styles t.postings ≡ None
-  pub even : (not (list_any is_open t.postings) && not (is_even styles t.postings)) ≡ false
+  pub even : (not (list_any is_without_amount t.postings) && not (is_even styles t.postings)) ≡ false
   pub small : list_any is_large (legs_among styles t.postings t.postings) ≡ false
 
 none_not_some : {A : Type 0} {x : A} → Some x ≡ None → ⊥
@@ -36,19 +37,19 @@ in_order false false false None x y z e = (refl, refl, refl, refl)
 pub no_fault : (styles : List Style) (t : Txn) → balancing_fault styles t ≡ None → HasNoFault styles t
 unfolding balancing_fault
 no_fault styles t e =
-    let h = in_order (nat_lt 1 (count_by is_open t.postings))
-    (not (list_any is_open t.postings) && not (is_even styles t.postings))
+    let h = in_order (nat_lt 1 (count_by is_without_amount t.postings))
+    (not (list_any is_without_amount t.postings) && not (is_even styles t.postings))
     (list_any is_large (legs_among styles t.postings t.postings)) (cost_fault styles t.postings) TwoBlanks Unbalanced
     Limit e in
     record { one = h.0; costs = h.1; even = h.2; small = h.3 }
 
 -- a transaction with an entry has no fault, and the entry is the one of its postings
-pub legs_found : (styles : List Style) (t : Txn) (e : Entry) → legs_of styles t ≡ Ok e
+pub legs_found : (styles : List Style) (t : Txn) (e : Entry) → balanced_entry styles t ≡ Ok e
     → HasNoFault styles t × (entry_of styles t ≡ e)
-unfolding legs_of
+unfolding balanced_entry
 legs_found styles t e = by_fault (balancing_fault styles t) refl
   where
-    by_fault : (o : Option Cause) → balancing_fault styles t ≡ o → unless (entry_of styles t) o ≡ Ok e
+    by_fault : (o : Option Cause) → balancing_fault styles t ≡ o → entry_unless (entry_of styles t) o ≡ Ok e
         → HasNoFault styles t × (entry_of styles t ≡ e)
     by_fault None f h = (no_fault styles t f, ok_same (Ok (entry_of styles t)) (entry_of styles t) e refl h)
     by_fault (Some cause) f h = absurd cc

@@ -26,10 +26,12 @@ use Rattle.journal_format.specs.declared.txn.Txn.{Txn}
 use Rattle.journal_format.specs.Printable.{is_amount, is_price_or_none, is_posting}
 use Rattle.journal_format.proofs.MoreStylesLemmas.{declared_amount}
 use Rattle.journal_balance.specs.Conversion.{symbol_in, symbol_of, conversion_account}
-use Rattle.journal_balance.specs.Legs.{commodities, declared, cost_value, in_unit, amount_value, value_of, sum_of, leg}
+use Rattle.journal_balance.specs.Legs.{commodities, declared_commodities, cost_value, in_unit, amount_value, value_of}
+use Rattle.journal_balance.specs.Legs.{sum_of, leg}
 use Rattle.journal_balance.specs.Legs.{amount_legs, rest_leg, rest_legs, posting_legs, legs_among, placed, claims_among}
-use Rattle.journal_balance.specs.Legs.{entry_of, fault_in, cost_fault_of, cost_fault, is_even, balancing_fault, unless}
-use Rattle.journal_balance.specs.Legs.{legs_of}
+use Rattle.journal_balance.specs.Legs.{entry_of, fault_in, cost_fault_of, cost_fault, is_even, balancing_fault}
+use Rattle.journal_balance.specs.Legs.{entry_unless}
+use Rattle.journal_balance.specs.Legs.{balanced_entry}
 use Rattle.journal_balance.proofs.LimitLemmas.{amount_ok}
 use Rattle.journal_balance.proofs.ValueLemmas.{price_declared, sum_undeclared}
 
@@ -47,11 +49,11 @@ commodities-add n (suc j) k =
     (commodities-add (n + 1) j k ∙ ap (λ (m : ℕ). commodities (n + 1) j ++ commodities m k) behind)
 
 declared-append : (styles more : List Style)
-    → declared (styles ++ more) ≡ declared styles ++ commodities (length styles) (length more)
+    → declared_commodities (styles ++ more) ≡ declared_commodities styles ++ commodities (length styles) (length more)
 declared-append styles more =
     let from : zero + length styles ≡ length styles = omega arith in
     ap (commodities 0) (length-append styles more) ∙ commodities-add 0 (length styles) (length more) ∙ ap
-    (λ (n : ℕ). declared styles ++ commodities n (length more)) from
+    (λ (n : ℕ). declared_commodities styles ++ commodities n (length more)) from
 
 -- equal sums leave equal rests
 rests_same : (f g : Commodity → ℤ) (account : List ℕ) → ((u : Commodity) → f u ≡ g u) → (us : List Commodity)
@@ -159,12 +161,12 @@ rests_stay styles more stays account ps ok =
     let f : Commodity → ℤ = λ (u : Commodity). sum_of styles u ps in
     let rest : Commodity → List Leg = λ (u : Commodity). rest_leg account u (f u) in
     rests_same (λ (u : Commodity). sum_of (styles ++ more) u ps) f account (λ u. sum_stays styles more stays ps u ok)
-    (declared (styles ++ more))
+    (declared_commodities (styles ++ more))
     ∙ ap (flat_map rest) (declared-append styles more)
-    ∙ flat_map-append rest (declared styles) (commodities (length styles) (length more))
-    ∙ ap (λ (xs : List Leg). flat_map rest (declared styles) ++ xs)
+    ∙ flat_map-append rest (declared_commodities styles) (commodities (length styles) (length more))
+    ∙ ap (λ (xs : List Leg). flat_map rest (declared_commodities styles) ++ xs)
     (rests_none f account (length styles) (length more) (λ u past. sum_undeclared styles u ps ok past))
-    ∙ append-nil (flat_map rest (declared styles))
+    ∙ append-nil (flat_map rest (declared_commodities styles))
 
 even_stays : (styles more : List Style) → StaysUnderMore styles more → (ps : List Posting)
     → list_all (is_posting styles) ps ≡ true
@@ -173,12 +175,12 @@ even_stays styles more stays ps ok =
     let f : Commodity → ℤ = λ (u : Commodity). sum_of styles u ps in
     let test : Commodity → Bool = λ (u : Commodity). int_eq (f u) (pos 0) in
     evens_same (λ (u : Commodity). sum_of (styles ++ more) u ps) f (λ u. sum_stays styles more stays ps u ok)
-    (declared (styles ++ more))
+    (declared_commodities (styles ++ more))
     ∙ ap (list_all test) (declared-append styles more)
-    ∙ list_all-append test (declared styles) (commodities (length styles) (length more))
-    ∙ ap (λ (b : Bool). list_all test (declared styles) && b)
+    ∙ list_all-append test (declared_commodities styles) (commodities (length styles) (length more))
+    ∙ ap (λ (b : Bool). list_all test (declared_commodities styles) && b)
     (evens_all f (length styles) (length more) (λ u past. sum_undeclared styles u ps ok past))
-    ∙ and_true (list_all test (declared styles))
+    ∙ and_true (list_all test (declared_commodities styles))
   where
     and_true : (b : Bool) → (b && true) ≡ b
     and_true true = refl
@@ -247,8 +249,8 @@ entry_stays styles more stays t ok =
 
 -- the entry of a transaction, or its fault, is the same under more styles
 pub legs_of-append : (styles more : List Style) → StaysUnderMore styles more → (t : Txn)
-    → list_all (is_posting styles) t.postings ≡ true → legs_of (styles ++ more) t ≡ legs_of styles t
-unfolding legs_of
+    → list_all (is_posting styles) t.postings ≡ true → balanced_entry (styles ++ more) t ≡ balanced_entry styles t
+unfolding balanced_entry
 legs_of-append styles more stays t ok =
-    ap (unless (entry_of (styles ++ more) t)) (balancing_stays styles more stays t ok) ∙ ap
-    (λ (e : Entry). unless e (balancing_fault styles t)) (entry_stays styles more stays t ok)
+    ap (entry_unless (entry_of (styles ++ more) t)) (balancing_stays styles more stays t ok) ∙ ap
+    (λ (e : Entry). entry_unless e (balancing_fault styles t)) (entry_stays styles more stays t ok)

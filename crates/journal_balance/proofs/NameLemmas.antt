@@ -17,7 +17,7 @@ use Rattle.money_core.specs.Symbol.{no_double}
 use Rattle.money_core.proofs.Utf8Lemmas.{utf8_joined, utf8_low}
 use Rattle.money_core.proofs.TestLemmas.{if_either}
 use Rattle.book_core.specs.Account.{name_cmp}
-use Rattle.journal_lines.specs.AccountName.{is_name_byte, is_part, is_gap, has_gap, is_account}
+use Rattle.journal_lines.specs.AccountName.{is_account_name_byte, is_part, is_gap, has_gap, is_account}
 use Rattle.journal_balance.specs.Conversion.{lesser, greater, conversion_account}
 
 -- ---- gaps
@@ -60,16 +60,17 @@ gap_last (b ∷ (next ∷ rest)) h e =
 
 -- ---- bytes
 
-named_byte : (b : ℕ) → is_part_byte b ≡ true → is_name_byte b ≡ true
+named_byte : (b : ℕ) → is_part_byte b ≡ true → is_account_name_byte b ≡ true
 named_byte b h = grind (arith, common_steps)
 
 no_colon_byte : (b : ℕ) → is_part_byte b ≡ true → (b == 58) ≡ false
 no_colon_byte b h = grind (arith, common_steps)
 
-all_named : (xs : List ℕ) → list_all is_part_byte xs ≡ true → list_all is_name_byte xs ≡ true
+all_named : (xs : List ℕ) → list_all is_part_byte xs ≡ true → list_all is_account_name_byte xs ≡ true
 all_named [] h = refl
-all_named (b ∷ bs) h = let p = and_parts (is_part_byte b) (list_all is_part_byte bs) h in and_from (is_name_byte b)
-    (list_all is_name_byte bs) (named_byte b p.0) (all_named bs p.1)
+all_named (b ∷ bs) h =
+    let p = and_parts (is_part_byte b) (list_all is_part_byte bs) h in and_from (is_account_name_byte b)
+    (list_all is_account_name_byte bs) (named_byte b p.0) (all_named bs p.1)
 
 no_colons : (xs : List ℕ) → list_all is_part_byte xs ≡ true → AllByRecursion (λ (b : ℕ). (b == 58) ≡ false) xs
 no_colons [] h = tt
@@ -118,12 +119,12 @@ module _ (x y own : List ℕ) (is_x : IsNamePart x) (is_y : IsNamePart y) (is_ow
       ∙ and_from _ _ (some_part (length (between x y)) (omega (arith, length-append x (45 ∷ y))))
       (and_from _ _ (some_part (length own) is_own.some) refl)
 
-  bytes : list_all is_name_byte (tail_of x y own) ≡ true
+  bytes : list_all is_account_name_byte (tail_of x y own) ≡ true
   bytes =
-      list_all-append is_name_byte x (45 ∷ (y ++ 58 ∷ own))
+      list_all-append is_account_name_byte x (45 ∷ (y ++ 58 ∷ own))
       ∙ and_from _ _ (all_named x is_x.good)
       (and_from _ _ refl
-      (list_all-append is_name_byte y (58 ∷ own) ∙ and_from _ _ (all_named y is_y.good)
+      (list_all-append is_account_name_byte y (58 ∷ own) ∙ and_from _ _ (all_named y is_y.good)
       (and_from _ _ refl (all_named own is_own.good))))
 
   gaps : has_gap (tail_of x y own) ≡ false

@@ -20,9 +20,10 @@ use Rattle.book_core.specs.Balance.{value}
 use Rattle.book_core.specs.GoodBook.{IsBalanced}
 use Rattle.journal_format.specs.declared.posting.Posting.{Posting}
 use Rattle.journal_format.specs.Printable.{is_amount, is_price_or_none, is_posting}
-use Rattle.journal_balance.specs.Legs.{commodities, declared, in_unit, cost_value, amount_value, value_of, sum_of, leg}
+use Rattle.journal_balance.specs.Legs.{commodities, declared_commodities, in_unit, cost_value, amount_value, value_of}
+use Rattle.journal_balance.specs.Legs.{sum_of, leg}
 use Rattle.journal_balance.specs.Legs.{conversion_legs, amount_legs, rest_leg, rest_legs, posting_legs, legs_among}
-use Rattle.journal_balance.specs.Legs.{is_open, is_even}
+use Rattle.journal_balance.specs.Legs.{is_without_amount, is_even}
 use Rattle.journal_balance.proofs.LimitLemmas.{amount_ok}
 
 pub value-append : (unit : Commodity) (xs ys : List Leg) → value unit (xs ++ ys) ≡ value unit xs +ℤ value unit ys
@@ -177,11 +178,11 @@ rest_value styles account all unit ok = by_declared (nat_lt unit.0 (length style
         (ap neg_ℤ none)
 
 -- no posting without an amount: the legs are worth what the postings are
-among_closed : (styles : List Style) (all xs : List Posting) (unit : Commodity) → list_any is_open xs ≡ false
+among_closed : (styles : List Style) (all xs : List Posting) (unit : Commodity) → list_any is_without_amount xs ≡ false
     → value unit (legs_among styles all xs) ≡ sum_of styles unit xs
 among_closed styles all [] unit h = refl
 among_closed styles all (x ∷ xs) unit h =
-    let parts = or_parts (is_open x) (list_any is_open xs) h in
+    let parts = or_parts (is_without_amount x) (list_any is_without_amount xs) h in
     let later = among_closed styles all xs unit parts.1 in
     let first = mine x.amount parts.0 in
     value-append unit (posting_legs styles all x.account x.amount x.price) (legs_among styles all xs) ∙ omega
@@ -193,29 +194,30 @@ among_closed styles all (x ∷ xs) unit h =
     mine (Some a) e = value-amount styles unit x.account a x.price
 
 pub count-cons : (x : Posting) (xs : List Posting)
-    → count_by is_open (x ∷ xs) ≡ cond (is_open x) 1 0 + count_by is_open xs
-count-cons x xs = sum_by-cons (λ (p : Posting). cond (is_open p) 1 0) x xs
+    → count_by is_without_amount (x ∷ xs) ≡ cond (is_without_amount x) 1 0 + count_by is_without_amount xs
+count-cons x xs = sum_by-cons (λ (p : Posting). cond (is_without_amount p) 1 0) x xs
 
-none_open : (xs : List Posting) → count_by is_open xs ≤ 0 → list_any is_open xs ≡ false
+none_open : (xs : List Posting) → count_by is_without_amount xs ≤ 0 → list_any is_without_amount xs ≡ false
 none_open [] h = refl
-none_open (x ∷ xs) h = by_open (is_open x) (subst (λ (n : ℕ). n ≤ 0) (count-cons x xs) h) (none_open xs)
+none_open (x ∷ xs) h = by_open (is_without_amount x) (subst (λ (n : ℕ). n ≤ 0) (count-cons x xs) h) (none_open xs)
   where
-    by_open : (t : Bool) → cond t 1 0 + count_by is_open xs ≤ 0
-        → (count_by is_open xs ≤ 0 → list_any is_open xs ≡ false) → (t || list_any is_open xs) ≡ false
+    by_open : (t : Bool) → cond t 1 0 + count_by is_without_amount xs ≤ 0
+        → (count_by is_without_amount xs ≤ 0 → list_any is_without_amount xs ≡ false)
+        → (t || list_any is_without_amount xs) ≡ false
     by_open true k later = absurd (omega (arith, k))
     by_open false k later = later (omega (arith, k))
 
 -- one posting without an amount: the legs are worth nothing after all postings
 among_open : (styles : List Style) (all xs : List Posting) (unit : Commodity) → list_all (is_posting styles) all ≡ true
-    → list_any is_open xs ≡ true → count_by is_open xs ≤ 1
+    → list_any is_without_amount xs ≡ true → count_by is_without_amount xs ≤ 1
     → value unit (legs_among styles all xs) ≡ sum_of styles unit xs +ℤ neg_ℤ (sum_of styles unit all)
 among_open styles all [] unit ok h few = absurd (true≢false (sym h))
 among_open styles all (x ∷ xs) unit ok h few =
     by_amount x.amount h (subst (λ (n : ℕ). n ≤ 1) (count-cons x xs) few) (among_open styles all xs unit ok)
   where
-    by_amount : (o : Option (Commodity × ℤ)) → (not (is_some o) || list_any is_open xs) ≡ true
-        → cond (not (is_some o)) 1 0 + count_by is_open xs ≤ 1
-        → (list_any is_open xs ≡ true → count_by is_open xs ≤ 1
+    by_amount : (o : Option (Commodity × ℤ)) → (not (is_some o) || list_any is_without_amount xs) ≡ true
+        → cond (not (is_some o)) 1 0 + count_by is_without_amount xs ≤ 1
+        → (list_any is_without_amount xs ≡ true → count_by is_without_amount xs ≤ 1
         → value unit (legs_among styles all xs) ≡ sum_of styles unit xs +ℤ neg_ℤ (sum_of styles unit all))
         → value unit (posting_legs styles all x.account o x.price ++ legs_among styles all xs)
         ≡ (value_of styles unit o x.price +ℤ sum_of styles unit xs) +ℤ neg_ℤ (sum_of styles unit all)
@@ -260,16 +262,17 @@ even_sum styles ps unit ok h = by_declared (nat_lt unit.0 (length styles)) refl
 
 -- the legs of postings without a fault sum to zero in every commodity
 pub legs_balanced : (styles : List Style) (ps : List Posting) → list_all (is_posting styles) ps ≡ true
-    → nat_lt 1 (count_by is_open ps) ≡ false
-    → (not (list_any is_open ps) && not (is_even styles ps)) ≡ false → IsBalanced (legs_among styles ps ps)
-legs_balanced styles ps ok one even unit = by_open (list_any is_open ps) refl even
+    → nat_lt 1 (count_by is_without_amount ps) ≡ false
+    → (not (list_any is_without_amount ps) && not (is_even styles ps)) ≡ false → IsBalanced (legs_among styles ps ps)
+legs_balanced styles ps ok one even unit = by_open (list_any is_without_amount ps) refl even
   where
     not_not : (b : Bool) → not b ≡ false → b ≡ true
     not_not true e = refl
     not_not false e = absurd (true≢false e)
 
-    by_open : (t : Bool) → list_any is_open ps ≡ t → (not t && not (is_even styles ps)) ≡ false
+    by_open : (t : Bool) → list_any is_without_amount ps ≡ t → (not t && not (is_even styles ps)) ≡ false
         → value unit (legs_among styles ps ps) ≡ pos 0
-    by_open true e h = let few : count_by is_open ps ≤ 1 = ltb-false 1 (count_by is_open ps) one in let worth =
+    by_open true e h =
+        let few : count_by is_without_amount ps ≤ 1 = ltb-false 1 (count_by is_without_amount ps) one in let worth =
         among_open styles ps ps unit ok e few in omega (arith, ints, worth)
     by_open false e h = among_closed styles ps ps unit e ∙ even_sum styles ps unit ok (not_not (is_even styles ps) h)

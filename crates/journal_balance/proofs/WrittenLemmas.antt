@@ -21,8 +21,9 @@ use Rattle.book_core.specs.Balance.{value}
 use Rattle.journal_format.specs.declared.posting.Posting.{Posting}
 use Rattle.journal_format.specs.declared.txn.Txn.{Txn}
 use Rattle.journal_balance.specs.Legs.{commodities, value_of, sum_of, posting_legs, legs_among, placed, claims_among}
-use Rattle.journal_balance.specs.Legs.{is_open, is_large, is_even, cost_fault_of, cost_fault, balancing_fault, entry_of}
-use Rattle.journal_balance.specs.Legs.{unless, legs_of}
+use Rattle.journal_balance.specs.Legs.{is_without_amount, is_large, is_even, cost_fault_of, cost_fault, balancing_fault}
+use Rattle.journal_balance.specs.Legs.{entry_of}
+use Rattle.journal_balance.specs.Legs.{entry_unless, balanced_entry}
 use Rattle.journal_balance.specs.Plain.{written_leg, written_legs, written_claims, written_entry, is_written, IsWritten}
 use Rattle.journal_balance.proofs.ValueLemmas.{value-append, count-cons}
 
@@ -65,13 +66,14 @@ claims_written styles all k (p ∷ ps) h =
     (λ (xs : List Placed). placed k p.claim ++ xs) (claims_written styles all (k + 1) ps (rest_of p ps h))
 
 none_open : (ps : List Posting) → list_all is_written ps ≡ true
-    → (list_any is_open ps ≡ false) × (count_by is_open ps ≡ 0)
+    → (list_any is_without_amount ps ≡ false) × (count_by is_without_amount ps ≡ 0)
 none_open [] h = (refl, refl)
 none_open (p ∷ ps) h =
     let shut = (one_of [] [] p ps h).shut in
     let later = none_open ps (rest_of p ps h) in (
-      ap (λ (b : Bool). b || list_any is_open ps) shut ∙ later.0,
-      count-cons p ps ∙ ap (λ (b : Bool). cond b 1 0 + count_by is_open ps) shut ∙ ap (λ (n : ℕ). 0 + n) later.1,
+      ap (λ (b : Bool). b || list_any is_without_amount ps) shut ∙ later.0,
+      count-cons p ps ∙ ap (λ (b : Bool). cond b 1 0 + count_by is_without_amount ps) shut
+          ∙ ap (λ (n : ℕ). 0 + n) later.1,
     )
 
 no_costs : (styles : List Style) (ps : List Posting) → list_all is_written ps ≡ true → cost_fault styles ps ≡ None
@@ -111,16 +113,16 @@ no_fault styles t h =
     let small : list_any is_large (legs_among styles t.postings t.postings) ≡ false =
     ap (list_any is_large) (legs_written styles t.postings t.postings h.written) ∙ none_large
     (written_legs t.postings) h.small in
-    rw (shut.1, no_costs styles t.postings h.written, even, small) (none_left (list_any is_open t.postings))
+    rw (shut.1, no_costs styles t.postings h.written, even, small) (none_left (list_any is_without_amount t.postings))
   where
     none_left : (b : Bool) → (if not b && false then Some Unbalanced else None) ≡ None
     none_left true = refl
     none_left false = refl
 
-pub legs_of-written : (styles : List Style) (t : Txn) → IsWritten t → legs_of styles t ≡ Ok (written_entry t)
-unfolding legs_of
+pub legs_of-written : (styles : List Style) (t : Txn) → IsWritten t → balanced_entry styles t ≡ Ok (written_entry t)
+unfolding balanced_entry
 legs_of-written styles t h =
-    ap (unless (entry_of styles t)) (no_fault styles t h)
+    ap (entry_unless (entry_of styles t)) (no_fault styles t h)
     ∙ ap (λ (xs : List Leg). Ok (record
     { day = t.day; legs = xs; claims = claims_among styles t.postings 1 t.postings }))
     (legs_written styles t.postings t.postings h.written)

@@ -28,8 +28,8 @@ commodities n zero = []
 commodities n (suc k) = record { 0 = n } ∷ commodities (n + 1) k
 
 -- all commodities, in declared order
-abbrev pub declared : List Style → List Commodity
-declared styles = commodities 0 (length styles)
+abbrev pub declared_commodities : List Style → List Commodity
+declared_commodities styles = commodities 0 (length styles)
 
 -- the quantity of a cost, where it has no fault
 abbrev pub cost_value : Result ℤ Cause → ℤ
@@ -79,7 +79,7 @@ rest_leg account unit sum = if int_eq sum (pos 0) then [] else leg account unit 
 -- what is left of all postings, in declared order ("Postings": one amount may be left out)
 abbrev pub rest_legs : List Style → List ℕ → List Posting → List Leg
 rest_legs styles account all =
-    flat_map (λ (unit : Commodity). rest_leg account unit (sum_of styles unit all)) (declared styles)
+    flat_map (λ (unit : Commodity). rest_leg account unit (sum_of styles unit all)) (declared_commodities styles)
 
 -- the legs of a posting among all postings
 abbrev pub posting_legs : List Style → List Posting → List ℕ → Option (Commodity × ℤ) → Option Price → List Leg
@@ -111,8 +111,8 @@ entry_of styles t = record {
 }
 
 -- a posting without an amount
-abbrev pub is_open : Posting → Bool
-is_open p = not (is_some p.amount)
+abbrev pub is_without_amount : Posting → Bool
+is_without_amount p = not (is_some p.amount)
 
 -- the fault of a result
 abbrev pub fault_in : Result ℤ Cause → Option Cause
@@ -132,7 +132,8 @@ cost_fault styles (p ∷ ps) = option_or (cost_fault_of styles p.amount p.price)
 
 -- the values sum to zero in every declared commodity
 abbrev pub is_even : List Style → List Posting → Bool
-is_even styles ps = list_all (λ (unit : Commodity). int_eq (sum_of styles unit ps) (pos 0)) (declared styles)
+is_even styles ps =
+    list_all (λ (unit : Commodity). int_eq (sum_of styles unit ps) (pos 0)) (declared_commodities styles)
 
 -- a leg over the limit
 abbrev pub is_large : Leg → Bool
@@ -145,17 +146,17 @@ has_large_leg styles all p = list_any is_large (posting_legs styles all p.accoun
 -- the first fault of a transaction: 17, then 12 and 13 posting by posting, then 18, then 28
 unfoldable pub balancing_fault : List Style → Txn → Option Cause
 balancing_fault styles t =
-    if nat_lt 1 (count_by is_open t.postings) then Some TwoBlanks
+    if nat_lt 1 (count_by is_without_amount t.postings) then Some TwoBlanks
     else option_or (cost_fault styles t.postings)
-    (if not (list_any is_open t.postings) && not (is_even styles t.postings) then Some Unbalanced
+    (if not (list_any is_without_amount t.postings) && not (is_even styles t.postings) then Some Unbalanced
     else if list_any is_large (legs_among styles t.postings t.postings) then Some Limit
     else None)
 
 -- the entry, unless there is a fault
-abbrev pub unless : Entry → Option Cause → Result Entry Cause
-unless e None = Ok e
-unless e (Some cause) = Err cause
+abbrev pub entry_unless : Entry → Option Cause → Result Entry Cause
+entry_unless e None = Ok e
+entry_unless e (Some cause) = Err cause
 
 -- the entry of a transaction, or its first fault
-unfoldable pub legs_of : List Style → Txn → Result Entry Cause
-legs_of styles t = unless (entry_of styles t) (balancing_fault styles t)
+unfoldable pub balanced_entry : List Style → Txn → Result Entry Cause
+balanced_entry styles t = entry_unless (entry_of styles t) (balancing_fault styles t)

@@ -4,8 +4,8 @@ ghost use Rattle.std.specs.Prelude.{◌≡◌, Err, ◌⊎◌, ◌∷◌, [], tr
 ghost use Rattle.std.specs.Result.{IsOkUnless};
 ghost use Rattle.std.specs.List.{list_all, list_any, count_by};
 ghost use Rattle.journal_format.specs.Printable.{is_posting, IsPrintable};
-ghost use Rattle.journal_balance.specs.Legs.{is_open, is_large, has_large_leg, legs_among, claims_among};
-ghost use Rattle.journal_balance.specs.Legs.{balancing_fault, legs_of};
+ghost use Rattle.journal_balance.specs.Legs.{is_without_amount, is_large, has_large_leg, legs_among, claims_among};
+ghost use Rattle.journal_balance.specs.Legs.{balancing_fault, balanced_entry};
 
 use crate::entering::{push_claim, push_posting};
 use crate::missing_amount::{is_even, leaves_too_much};
@@ -17,14 +17,14 @@ use std::alloc::Global;
 
 /// How many postings have no amount.
 fn open_count(postings: &[Posting]) -> usize
-    ensures { result ≡ count_by is_open postings.now }
+    ensures { result ≡ count_by is_without_amount postings.now }
 {
     postings.iter().filter(|p| p.amount.is_none()).count()
 }
 
 /// Whether some posting has no amount.
 fn has_open(postings: &[Posting]) -> bool
-    ensures { result ≡ list_any is_open postings.now }
+    ensures { result ≡ list_any is_without_amount postings.now }
 {
     postings.iter().any(|p| p.amount.is_none())
 }
@@ -104,10 +104,10 @@ fn entered(
 /// It asks that the transaction is printable. The faults, in this order: 17 for a second posting without an amount; 12
 /// and 13, posting by posting, for a cost in the amount's own commodity or over 10^16, and for one that is not exact;
 /// 18 where the values do not sum to zero; 28 for a leg over 10^16. 40 for want of memory.
-#[tactic(auto, unfolding(crate::specs::Legs::legs_of))]
+#[tactic(auto, unfolding(crate::specs::Legs::balanced_entry))]
 pub fn legs(alloc: Global, txn: &Txn, styles: &Styles) -> Result<Entry, Cause>
     requires { IsPrintable styles.now txn.now }
-    ensures { (result ≡ legs_of styles.now txn.now) ⊎ (result ≡ Err Cause.OutOfMemory) }
+    ensures { (result ≡ balanced_entry styles.now txn.now) ⊎ (result ≡ Err Cause.OutOfMemory) }
 {
     if let Some(cause) = balancing_fault(txn, styles) {
         return Err(cause);

@@ -11,7 +11,7 @@ ghost use Rattle.book_core.specs.declared.entry.Entry.{Entry};
 ghost use Rattle.book_core.specs.GoodBook.{IsFit};
 ghost use Rattle.journal_format.specs.declared.txn.Txn.{Txn};
 ghost use Rattle.journal_format.specs.Printable.{IsPrintable};
-ghost use Rattle.journal_balance.specs.Legs.{legs_of};
+ghost use Rattle.journal_balance.specs.Legs.{balanced_entry};
 ghost use Rattle.journal_balance.specs.Plain.{IsWritten, written_entry};
 
 use money_core::growth_law;
@@ -20,14 +20,16 @@ use money_core::growth_law;
 /// different legs of its own; each leg is within 10^16; its day is the transaction's; its legs and assertions are of
 /// declared commodities, and within the limit of amounts. Costs nothing.
 pub fn entry_law()
-    ensures fit { (styles : List Style) (t : Txn) (e : Entry) → IsPrintable styles t → legs_of styles t ≡ Ok e
+    ensures fit { (styles : List Style) (t : Txn) (e : Entry) → IsPrintable styles t → balanced_entry styles t ≡ Ok e
         → IsFit e }
-    ensures small { (styles : List Style) (t : Txn) (e : Entry) → legs_of styles t ≡ Ok e
+    ensures small { (styles : List Style) (t : Txn) (e : Entry) → balanced_entry styles t ≡ Ok e
         → AllByRecursion (λ (x : Posted). unsigned_abs x.qty ≤ limit) e.legs }
-    ensures day { (styles : List Style) (t : Txn) (e : Entry) → legs_of styles t ≡ Ok e → e.day ≡ t.day }
-    ensures declared { (styles : List Style) (t : Txn) (e : Entry) → IsPrintable styles t → legs_of styles t ≡ Ok e
+    ensures day { (styles : List Style) (t : Txn) (e : Entry) → balanced_entry styles t ≡ Ok e → e.day ≡ t.day }
+    ensures declared { (styles : List Style) (t : Txn) (e : Entry) → IsPrintable styles t
+        → balanced_entry styles t ≡ Ok e
         → AllByRecursion (λ (x : Posted). IsDeclared styles x.unit x.qty) e.legs }
-    ensures asserted { (styles : List Style) (t : Txn) (e : Entry) → IsPrintable styles t → legs_of styles t ≡ Ok e
+    ensures asserted { (styles : List Style) (t : Txn) (e : Entry) → IsPrintable styles t
+        → balanced_entry styles t ≡ Ok e
         → AllByRecursion (λ (x : OnLeg). IsDeclared styles x.claim.unit x.claim.qty) e.claims }
 {}
 
@@ -35,7 +37,7 @@ pub fn entry_law()
 /// nothing.
 pub fn entry_growth_law()
     ensures { (styles more : List Style) (t : Txn) → IsPrintable styles t
-        → legs_of (styles ++ more) t ≡ legs_of styles t }
+        → balanced_entry (styles ++ more) t ≡ balanced_entry styles t }
 {
     growth_law();
 }
@@ -43,11 +45,11 @@ pub fn entry_growth_law()
 /// A law of transactions of which everything is written, amounts without costs that sum to zero: the entry is that of
 /// the postings as they stand. Costs nothing.
 pub fn written_law()
-    ensures { (styles : List Style) (t : Txn) → IsWritten t → legs_of styles t ≡ Ok (written_entry t) }
+    ensures { (styles : List Style) (t : Txn) → IsWritten t → balanced_entry styles t ≡ Ok (written_entry t) }
 {}
 
 /// A law of marks: the entry of a transaction does not depend on its mark. Costs nothing.
 pub fn unmarked_law()
     ensures { (styles : List Style) (t : Txn) (mark : Option (List ℕ))
-        → legs_of styles (record t { mark = mark }) ≡ legs_of styles t }
+        → balanced_entry styles (record t { mark = mark }) ≡ balanced_entry styles t }
 {}

@@ -9,7 +9,7 @@ use Rattle.money_core.specs.declared.cause.Cause.{Cause}
 use Rattle.money_core.specs.declared.cause.Cause.TheVariants as cause
 use Rattle.money_core.specs.Amount.{place_of}
 use Rattle.money_core.specs.Sampling.{style_of}
-use Rattle.money_core.specs.Cutting.{symbol_of}
+use Rattle.money_core.specs.Cutting.{symbol_in_text}
 use Rattle.money_core.proofs.GrammarLemmas.{whole_symbol}
 use Rattle.money_core.proofs.SampleLemmas.{style_spelled, spelled_style}
 use Rattle.money_core.proofs.ListLemmas.{nil_from_empty}
@@ -21,10 +21,11 @@ use Rattle.journal_lines.proofs.HeaderFaultLemmas.{fault_of, date_fault}
 use Rattle.journal_lines.proofs.HeaderLemmas.{cond_cases}
 use Rattle.journal_format.specs.Line.{is_text}
 use Rattle.journal_format.specs.Machine.{State, within}
-use Rattle.journal_format.specs.Directive.{shows_digit, agrees, sampled, sampled_at, symbol_at, named, commodity_named}
+use Rattle.journal_format.specs.Directive.{shows_digit, agrees, sampled, sampled_at, symbol_at, commodity_by_symbol}
+use Rattle.journal_format.specs.Directive.{commodity_named}
 use Rattle.journal_format.specs.Directive.{format_at, sample_fault, is_format, format_fault}
 use Rattle.journal_format.specs.DirectiveForm.{IsSampleOf, IsSymbolOf, behind_word}
-use Rattle.journal_format.specs.LineFaults.{LineFault, IsFirst, Names, line_faults, directive_faults, format_faults}
+use Rattle.journal_format.specs.LineFaults.{LineFault, IsFirst, NamesUnit, line_faults, directive_faults, format_faults}
 use Rattle.journal_format.proofs.FirstLemmas.{AreNone, first_behind_none, first_in_front, refused, one_err, not_both}
 use Rattle.journal_format.proofs.DirectiveFormLemmas.{named_iff, sample_digit, symbol_digit, sample_none, is_format_iff}
 
@@ -106,13 +107,13 @@ directive_told styles text c e =
         λ k. (let two = sym some.0 ∙ ap (λ (xs : List ℕ). length xs == 0) k in absurd cc),
         elim (cond_cases (shows_digit text) (sampled styles (style_of text)) _ (Err c) some.1) [
           | inl digit ↦ by_sample digit.0 (style_of text) refl digit.1
-          | inr plain ↦ by_symbol plain.0 (symbol_of text) refl plain.1
+          | inr plain ↦ by_symbol plain.0 (symbol_in_text text) refl plain.1
         ],
       )
     ]
   where
     rest : List LineFault
-    rest = (cause.UnknownCommodity, (symbol : List ℕ) × (Names symbol text × (place_of styles symbol ≡ None)))
+    rest = (cause.UnknownCommodity, (symbol : List ℕ) × (NamesUnit symbol text × (place_of styles symbol ≡ None)))
         ∷ (cause.CommodityStyle, (unit : Commodity) → ¬ (IsSampleOf styles unit text ⊎ IsSymbolOf styles unit text))
         ∷ []
 
@@ -120,13 +121,13 @@ directive_told styles text c e =
     no_commodity unit w = not_both (commodity_named styles text) unit c ((named_iff styles unit text).0 w) e
 
     by_sample : shows_digit text ≡ true → (o : Option Style) → style_of text ≡ o → sampled styles o ≡ Err c
-        → IsFirst ((cause.Amount, (symbol : List ℕ) → ¬ (Names symbol text))
-        ∷ (cause.UnknownCommodity, (symbol : List ℕ) × (Names symbol text × (place_of styles symbol ≡ None)))
+        → IsFirst ((cause.Amount, (symbol : List ℕ) → ¬ (NamesUnit symbol text))
+        ∷ (cause.UnknownCommodity, (symbol : List ℕ) × (NamesUnit symbol text × (place_of styles symbol ≡ None)))
         ∷ (cause.CommodityStyle, (unit : Commodity) → ¬ (IsSampleOf styles unit text ⊎ IsSymbolOf styles unit text))
         ∷ []) c
     by_sample digit None q f = inl (nothing, sym (one_err (refused {A = Commodity} cause.Amount) cause.Amount c refl f))
       where
-        nothing : (symbol : List ℕ) → ¬ (Names symbol text)
+        nothing : (symbol : List ℕ) → ¬ (NamesUnit symbol text)
         nothing symbol (inl s) = (let two = sym q ∙ spelled_style text s.0 s.1.0 in cc)
         nothing symbol (inr w) = (let two = sym digit ∙ symbol_digit symbol text w in cc)
     by_sample digit (Some s) q f =
@@ -135,7 +136,7 @@ directive_told styles text c e =
         placed : (o : Option ℕ) → place_of styles s.symbol ≡ o → sampled_at styles s o ≡ Err c
             → IsFirst ((
               cause.UnknownCommodity,
-              (symbol : List ℕ) × (Names symbol text × (place_of styles symbol ≡ None)),
+              (symbol : List ℕ) × (NamesUnit symbol text × (place_of styles symbol ≡ None)),
             )
             ∷ (cause.CommodityStyle, (unit : Commodity) → ¬ (IsSampleOf styles unit text ⊎ IsSymbolOf styles unit text))
             ∷ []) c
@@ -156,7 +157,7 @@ directive_told styles text c e =
               ],
         )
           where
-            unplaced : (symbol : List ℕ) → Names symbol text → place_of styles symbol ≡ None → ⊥
+            unplaced : (symbol : List ℕ) → NamesUnit symbol text → place_of styles symbol ≡ None → ⊥
             unplaced symbol (inl t) none =
                 let same : Some s ≡ Some t.0 = sym q ∙ spelled_style text t.0 t.1.0 in
                 let symbols : s.symbol ≡ t.0.symbol =
@@ -164,14 +165,14 @@ directive_told styles text c e =
                 let two = sym p ∙ (ap (place_of styles) (symbols ∙ t.1.1) ∙ none) in cc
             unplaced symbol (inr w) none = (let two = sym digit ∙ symbol_digit symbol text w in cc)
 
-    by_symbol : shows_digit text ≡ false → (o : Option (List ℕ)) → symbol_of text ≡ o → named styles o ≡ Err c
-        → IsFirst ((cause.Amount, (symbol : List ℕ) → ¬ (Names symbol text))
-        ∷ (cause.UnknownCommodity, (symbol : List ℕ) × (Names symbol text × (place_of styles symbol ≡ None)))
+    by_symbol : shows_digit text ≡ false → (o : Option (List ℕ)) → symbol_in_text text ≡ o
+        → commodity_by_symbol styles o ≡ Err c → IsFirst ((cause.Amount, (symbol : List ℕ) → ¬ (NamesUnit symbol text))
+        ∷ (cause.UnknownCommodity, (symbol : List ℕ) × (NamesUnit symbol text × (place_of styles symbol ≡ None)))
         ∷ (cause.CommodityStyle, (unit : Commodity) → ¬ (IsSampleOf styles unit text ⊎ IsSymbolOf styles unit text))
         ∷ []) c
     by_symbol digit None q f = inl (nothing, sym (one_err (refused {A = Commodity} cause.Amount) cause.Amount c refl f))
       where
-        nothing : (symbol : List ℕ) → ¬ (Names symbol text)
+        nothing : (symbol : List ℕ) → ¬ (NamesUnit symbol text)
         nothing symbol (inl s) = (let two = sym digit ∙ sample_digit text s.0 s.1.0 in cc)
         nothing symbol (inr w) = (let two = sym q ∙ (whole_symbol symbol text).1 w in cc)
     by_symbol digit (Some symbol) q f =
@@ -180,7 +181,7 @@ directive_told styles text c e =
         placed : (o : Option ℕ) → place_of styles symbol ≡ o → symbol_at o ≡ Err c
             → IsFirst ((
               cause.UnknownCommodity,
-              (symbol : List ℕ) × (Names symbol text × (place_of styles symbol ≡ None)),
+              (symbol : List ℕ) × (NamesUnit symbol text × (place_of styles symbol ≡ None)),
             )
             ∷ (cause.CommodityStyle, (unit : Commodity) → ¬ (IsSampleOf styles unit text ⊎ IsSymbolOf styles unit text))
             ∷ []) c

@@ -20,14 +20,14 @@ use Rattle.money_core.specs.declared.style.Style.{Style}
 use Rattle.money_core.specs.declared.unit.Unit.{Unit as Commodity}
 use Rattle.money_core.specs.declared.cause.Cause.{Cause}
 use Rattle.money_core.specs.declared.cause.Cause.TheVariants.{Directive}
-use Rattle.money_core.specs.Class.{has}
+use Rattle.money_core.specs.Class.{is_of_class}
 use Rattle.money_core.specs.Mark.{decimal_byte, group_byte}
 use Rattle.money_core.specs.Number.{is_group, is_whole, is_number, whole_part, fraction_part}
 use Rattle.money_core.specs.Symbol.{WritesSymbol}
 use Rattle.money_core.specs.Amount.{place_of}
 use Rattle.money_core.specs.Style.{IsSample, mark_eq}
 use Rattle.money_core.specs.Sampling.{style_of}
-use Rattle.money_core.specs.Cutting.{symbol_of}
+use Rattle.money_core.specs.Cutting.{symbol_in_text}
 use Rattle.money_core.proofs.GrammarLemmas.{number_parts, symbol_begins, whole_symbol}
 use Rattle.money_core.proofs.SampleLemmas.{style_spelled, spelled_style}
 use Rattle.journal_lines.specs.Blank.{is_blank, first_word, first_solid, trim_start, trim, is_trimmed}
@@ -41,7 +41,8 @@ use Rattle.journal_lines.proofs.HeaderLemmas.{StartsBlank, date_ends, cond_cases
 use Rattle.journal_lines.proofs.HeaderFormLemmas.{remark_reads, in_row, split_start, blanks_front, end_blanks}
 use Rattle.journal_lines.proofs.HeaderFormLemmas.{split_end, blanks_end, remark_form, blank_no_semicolon}
 use Rattle.journal_format.specs.PostingParts.{outside}
-use Rattle.journal_format.specs.Directive.{shows_digit, agrees, sampled, sampled_at, symbol_at, named, commodity_named}
+use Rattle.journal_format.specs.Directive.{shows_digit, agrees, sampled, sampled_at, symbol_at, commodity_by_symbol}
+use Rattle.journal_format.specs.Directive.{commodity_named}
 use Rattle.journal_format.specs.Directive.{commodity_of, format_at, sample_fault, is_format, format_fault}
 use Rattle.journal_format.specs.DirectiveForm.{IsSampleOf, IsSymbolOf, HasBehind, NamesCommodity, IsBelow, behind_word}
 use Rattle.journal_format.proofs.OutsideLemmas.{IsFree, number_in, passed_symbol, solid_amount, solid_symbol}
@@ -112,10 +113,10 @@ sample_iff styles unit text = (to, at (style_of text) refl)
     at (Some sample) e k = placed sample (style_spelled text sample e) (place_of styles sample.symbol) refl k
 
 symbol_iff : (styles : List Style) (unit : Commodity) (text : List ℕ)
-    → IsSymbolOf styles unit text ↔ (named styles (symbol_of text) ≡ Ok unit)
-symbol_iff styles unit text = (to, at (symbol_of text) refl)
+    → IsSymbolOf styles unit text ↔ (commodity_by_symbol styles (symbol_in_text text) ≡ Ok unit)
+symbol_iff styles unit text = (to, at (symbol_in_text text) refl)
   where
-    to : IsSymbolOf styles unit text → named styles (symbol_of text) ≡ Ok unit
+    to : IsSymbolOf styles unit text → commodity_by_symbol styles (symbol_in_text text) ≡ Ok unit
     to w = rw ((whole_symbol w.symbol text).1 w.written, w.declared) refl
 
     ok_is : (r : Result Commodity Cause) (x y : Commodity) → r ≡ Ok x → r ≡ Ok y → x ≡ y
@@ -128,7 +129,8 @@ symbol_iff styles unit text = (to, at (symbol_of text) refl)
         subst (λ (u : Commodity). IsSymbolOf styles u text) (ok_is _ _ _ refl k)
         (record { symbol = symbol; written = w; declared = e })
 
-    at : (o : Option (List ℕ)) → symbol_of text ≡ o → named styles o ≡ Ok unit → IsSymbolOf styles unit text
+    at : (o : Option (List ℕ)) → symbol_in_text text ≡ o → commodity_by_symbol styles o ≡ Ok unit
+        → IsSymbolOf styles unit text
     at None e k = absurd cc
     at (Some symbol) e k = placed symbol ((whole_symbol symbol text).0 e) (place_of styles symbol) refl k
 
@@ -140,7 +142,7 @@ digit_free = record { quote = refl; signs = (refl, refl); blank = blank_is; symb
     blank_is : (b : ℕ) → is_blank b ≡ true → is_ascii_digit b ≡ false
     blank_is b h = grind (arith, common_steps)
 
-    symbol_is : (b : ℕ) → has Symbol b ≡ true → is_ascii_digit b ≡ false
+    symbol_is : (b : ℕ) → is_of_class Symbol b ≡ true → is_ascii_digit b ≡ false
     symbol_is b h = grind (arith, common_steps)
 
 -- a whole part begins with a digit
@@ -251,14 +253,16 @@ named_iff styles unit text = (to, from)
   where
     to : (IsSampleOf styles unit text ⊎ IsSymbolOf styles unit text)
         → cond (length text == 0) (Err Directive)
-        (cond (shows_digit text) (sampled styles (style_of text)) (named styles (symbol_of text))) ≡ Ok unit
+        (cond (shows_digit text) (sampled styles (style_of text))
+        (commodity_by_symbol styles (symbol_in_text text))) ≡ Ok unit
     to (inl w) = rw (sample_some text w.sample w.spelled, sample_digit text w.sample w.spelled)
         ((sample_iff styles unit text).0 w)
     to (inr w) = rw (symbol_some w.symbol text w.written, symbol_digit w.symbol text w.written)
         ((symbol_iff styles unit text).0 w)
 
     from : cond (length text == 0) (Err Directive)
-        (cond (shows_digit text) (sampled styles (style_of text)) (named styles (symbol_of text))) ≡ Ok unit
+        (cond (shows_digit text) (sampled styles (style_of text))
+        (commodity_by_symbol styles (symbol_in_text text))) ≡ Ok unit
         → (IsSampleOf styles unit text ⊎ IsSymbolOf styles unit text)
     from e = elim (cond_cases (length text == 0) _ _ _ e) [
       | inl none ↦ absurd (let no = none.1 in cc)

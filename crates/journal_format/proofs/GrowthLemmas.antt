@@ -16,7 +16,8 @@ use Rattle.journal_format.specs.declared.txn.Txn.{Txn}
 use Rattle.journal_format.specs.Line.{is_line}
 use Rattle.journal_format.specs.Machine.{bare, begun, with_remark}
 use Rattle.journal_format.specs.PostingParts.{is_virtual}
-use Rattle.journal_format.specs.Posting.{PostingCut, Value, cut_posting, posting_of, posted, judged_posting, value_of}
+use Rattle.journal_format.specs.Posting.{PostingCut, Value, cut_posting, posting_of, posting_with_value, judged_posting}
+use Rattle.journal_format.specs.Posting.{value_of_cut}
 use Rattle.journal_format.specs.Printable.{is_posting}
 use Rattle.journal_format.specs.Fault.{memory_fault}
 use Rattle.journal_format.specs.PostingRead.{IsUnlessMemory, first_of}
@@ -51,7 +52,8 @@ begun_as line h t r read is told =
     (subst (λ (u : Txn). IsUnlessMemory r (with_remark u h.comment)) (sym is) told)
 
 -- a posting that is read has at most the comment of its line
-few_comments : (cut : PostingCut) (r : Result Value Cause) (p : Posting) → posted cut r ≡ Ok p → length p.comments ≤ 1
+few_comments : (cut : PostingCut) (r : Result Value Cause) (p : Posting) → posting_with_value cut r ≡ Ok p
+    → length p.comments ≤ 1
 few_comments cut (Ok v) p e =
     let made : Posting = record {
       status = cut.status;
@@ -79,4 +81,4 @@ read_posting styles line p right h =
     let one = past (nat_lt 900 (length_of cut.comment)) _ _ p e in
     let two = past (is_virtual cut.name) _ _ p one.1 in
     let three = past (not (is_account cut.name)) _ _ p two.1 in
-    (posting_read styles line p right e, few_comments cut (value_of styles cut) p three.1)
+    (posting_read styles line p right e, few_comments cut (value_of_cut styles cut) p three.1)

@@ -11,7 +11,7 @@ use Rattle.journal_format.specs.Machine.{Context, State, opened, list_of, run, b
 use Rattle.journal_format.specs.declared.state.Context.TheVariants as at
 use Rattle.journal_format.specs.Pieces.{ArePieces}
 use Rattle.journal_format.specs.LineFaults.{IsFirst}
-use Rattle.journal_format.specs.Place.{Open, StandsOpen, count_of, faults_at, HasCause}
+use Rattle.journal_format.specs.Place.{Open, StandsOpen, transaction_count, faults_at, HasCause}
 use Rattle.journal_format.specs.Place.Open.{nothing, entry, directive, skipped, block}
 use Rattle.journal_format.proofs.StepLemmas.{ok_same, run-append}
 use Rattle.journal_format.proofs.LeadLemmas.{all_parts, PiecesLead, pieces_lead, entry_run, directive_run, skipped_run}
@@ -48,7 +48,7 @@ run_front_part styles before front part s t e r k =
     (run-append styles 1 front part begin s r ∙ (ap (λ (n : ℕ). run styles n part s) from ∙ k))
 
 pub open_place_reached : (styles : List Style) (before : List (List ℕ)) (done : List Located) (place : Open)
-    → StandsOpen styles before done place → list_all is_line before ≡ true → count_of done place ≤ 5000
+    → StandsOpen styles before done place → list_all is_line before ≡ true → transaction_count done place ≤ 5000
     → (n : ℕ) × ((run styles 1 before begin ≡ Ok (record { done = done; context = context_of place n }))
     × (place_at before (context_of place n) ≡ place))
 unfolding entry_run directive_run skipped_run
@@ -120,8 +120,8 @@ open_place_reached styles before done block h lines few =
 
 -- lines have one place after them
 pub one_place : (styles : List Style) (before : List (List ℕ)) (d e : List Located) (p q : Open)
-    → list_all is_line before ≡ true → StandsOpen styles before d p → count_of d p ≤ 5000 → StandsOpen styles before e q
-    → count_of e q ≤ 5000 → (d ≡ e) × (p ≡ q)
+    → list_all is_line before ≡ true → StandsOpen styles before d p → transaction_count d p ≤ 5000
+    → StandsOpen styles before e q → transaction_count e q ≤ 5000 → (d ≡ e) × (p ≡ q)
 one_place styles before d e p q right h few k less =
     let a = open_place_reached styles before d p h right few in
     let b = open_place_reached styles before e q k right less in
@@ -135,8 +135,9 @@ pub one_cause : (styles : List Style) (before : List (List ℕ)) (line : List �
     → list_all is_line before ≡ true → HasCause styles before line c → HasCause styles before line d → c ≡ d
 one_cause styles before line c d right h k =
     let same = one_place styles before h.done k.done h.place k.place right h.stands h.few k.stands k.few in
-    let moved : IsFirst (faults_at styles (count_of k.done k.place) k.place line) c =
-    subst (λ (p : Open). IsFirst (faults_at styles (count_of k.done p) p line) c) same.1
-    (subst (λ (xs : List Located). IsFirst (faults_at styles (count_of xs h.place) h.place line) c) same.0 h.first)
+    let moved : IsFirst (faults_at styles (transaction_count k.done k.place) k.place line) c =
+    subst (λ (p : Open). IsFirst (faults_at styles (transaction_count k.done p) p line) c) same.1
+    (subst (λ (xs : List Located). IsFirst (faults_at styles (transaction_count xs h.place) h.place line) c) same.0
+    h.first)
     in
-    one_first (faults_at styles (count_of k.done k.place) k.place line) c d moved k.first
+    one_first (faults_at styles (transaction_count k.done k.place) k.place line) c d moved k.first

@@ -11,7 +11,7 @@ use Rattle.money_core.specs.declared.class.Class.TheVariants.{Blank, Symbol, Num
 use Rattle.money_core.specs.declared.amount.Sign.{Sign}
 use Rattle.money_core.specs.declared.amount.Sign.TheVariants.{Absent, Plus, Minus}
 use Rattle.money_core.specs.Blank.{IsBlanks}
-use Rattle.money_core.specs.Class.{has}
+use Rattle.money_core.specs.Class.{is_of_class}
 use Rattle.money_core.specs.Symbol.{is_quoted_byte, in_quotes, WritesSymbol}
 use Rattle.money_core.specs.Amount.{Parts, WritesSign, IsAmount}
 use Rattle.money_core.proofs.AmountPrint.{last_of}
@@ -30,8 +30,8 @@ IsPassed p xs = (ys : List ℕ) → outside p false (xs ++ ys) ≡ length xs + o
 pub record IsFree (p : ℕ → Bool) : Type 0 where
   pub quote : p 34 ≡ false
   pub signs : (p 43 ≡ false) × (p 45 ≡ false)
-  pub blank : (b : ℕ) → has Blank b ≡ true → p b ≡ false
-  pub symbol : (b : ℕ) → has Symbol b ≡ true → p b ≡ false
+  pub blank : (b : ℕ) → is_of_class Blank b ≡ true → p b ≡ false
+  pub symbol : (b : ℕ) → is_of_class Symbol b ≡ true → p b ≡ false
 
 pub passed_bytes : (p : ℕ → Bool) (xs : List ℕ) → list_all (λ b. not (p b)) xs ≡ true
     → list_all (λ b. not (b == 34)) xs ≡ true → IsPassed p xs
@@ -66,10 +66,10 @@ passed_joined p xs ys h k = λ zs.
 
 pub passed_blanks : (p : ℕ → Bool) → IsFree p → (xs : List ℕ) → IsBlanks xs → IsPassed p xs
 passed_blanks p f xs h = passed_bytes p xs
-    (all_weaker (has Blank) (λ b. not (p b)) xs (λ b k. not_from_false _ (f.blank b k)) h)
-    (all_weaker (has Blank) (λ b. not (b == 34)) xs blank_no_quote h)
+    (all_weaker (is_of_class Blank) (λ b. not (p b)) xs (λ b k. not_from_false _ (f.blank b k)) h)
+    (all_weaker (is_of_class Blank) (λ b. not (b == 34)) xs blank_no_quote h)
   where
-    blank_no_quote : (b : ℕ) → has Blank b ≡ true → not (b == 34) ≡ true
+    blank_no_quote : (b : ℕ) → is_of_class Blank b ≡ true → not (b == 34) ≡ true
     blank_no_quote b h = grind (arith, common_steps)
 
 passed_sign : (p : ℕ → Bool) → IsFree p → (sign : Sign) (xs : List ℕ) → WritesSign sign xs → IsPassed p xs
@@ -85,8 +85,8 @@ unfolding outside
 passed_symbol p f symbol written (inl h) =
     let bytes = (bare_facts symbol h.0).bytes in
     subst (IsPassed p) (sym h.1) (passed_bytes p symbol
-    (all_weaker (has Symbol) (λ b. not (p b)) symbol (λ b k. not_from_false _ (f.symbol b k)) bytes)
-    (all_weaker (has Symbol) (λ b. not (b == 34)) symbol (λ b k. not_from_false _ (symbol_no_quote b k)) bytes))
+    (all_weaker (is_of_class Symbol) (λ b. not (p b)) symbol (λ b k. not_from_false _ (f.symbol b k)) bytes)
+    (all_weaker (is_of_class Symbol) (λ b. not (b == 34)) symbol (λ b k. not_from_false _ (symbol_no_quote b k)) bytes))
 passed_symbol p f symbol written (inr h) =
     subst (IsPassed p) (sym h.1)
     (quoted symbol (all_weaker is_quoted_byte (λ b. not (b == 34)) symbol no_quote (symbol_facts symbol h.0).bytes))
@@ -99,11 +99,11 @@ passed_symbol p f symbol written (inr h) =
         let seam : (xs ++ 34 ∷ []) ++ ys ≡ xs ++ 34 ∷ ys = append_assoc xs (34 ∷ []) ys in
         rw (f.quote, seam, inside_quotes p xs ys k, length-append xs (34 ∷ [])) (omega arith)
 
-pub passed_number : (p : ℕ → Bool) (xs : List ℕ) → ((b : ℕ) → has Number b ≡ true → p b ≡ false)
-    → list_all (has Number) xs ≡ true → IsPassed p xs
+pub passed_number : (p : ℕ → Bool) (xs : List ℕ) → ((b : ℕ) → is_of_class Number b ≡ true → p b ≡ false)
+    → list_all (is_of_class Number) xs ≡ true → IsPassed p xs
 passed_number p xs f h =
-    passed_bytes p xs (all_weaker (has Number) (λ b. not (p b)) xs (λ b k. not_from_false _ (f b k)) h)
-    (all_weaker (has Number) (λ b. not (b == 34)) xs (λ b k. not_from_false _ (number_no_quote b k)) h)
+    passed_bytes p xs (all_weaker (is_of_class Number) (λ b. not (p b)) xs (λ b k. not_from_false _ (f b k)) h)
+    (all_weaker (is_of_class Number) (λ b. not (b == 34)) xs (λ b k. not_from_false _ (number_no_quote b k)) h)
 
 -- what stands around the number of an amount
 pub record NumberIn (p : ℕ → Bool) (text number : List ℕ) : Type 0 where
@@ -151,7 +151,7 @@ number_in p f mark text parts a = elim a.form [
     regroup a b c d e = simp (append_assoc, append-nil)
 
 -- an amount is passed over whole where no byte of numbers is looked for
-pub passed_amount : (p : ℕ → Bool) → IsFree p → ((b : ℕ) → has Number b ≡ true → p b ≡ false)
+pub passed_amount : (p : ℕ → Bool) → IsFree p → ((b : ℕ) → is_of_class Number b ≡ true → p b ≡ false)
     → (mark : Mark) (text : List ℕ) (parts : Parts) → IsAmount mark text parts → IsPassed p text
 passed_amount p f n mark text parts a =
     let at = number_in p f mark text parts a in
@@ -173,7 +173,7 @@ solid_number : (number : List ℕ) → NumberText number → IsSolid number
 solid_number number h = record {
   some = h.some;
   last = number_no_blank (slice_index number (length number - 1))
-      (AllPass-from_list_all (has Number) number h.bytes (length number - 1) 0 (omega (arith, h.some)));
+      (AllPass-from_list_all (is_of_class Number) number h.bytes (length number - 1) 0 (omega (arith, h.some)));
 }
 
 pub solid_symbol : (symbol written : List ℕ) → WritesSymbol symbol written → IsSolid written
@@ -182,7 +182,7 @@ solid_symbol symbol written (inl h) =
     subst IsSolid (sym h.1) (record {
       some = some;
       last = symbol_no_blank (slice_index symbol (length symbol - 1))
-          (AllPass-from_list_all (has Symbol) symbol (bare_facts symbol h.0).bytes (length symbol - 1) 0
+          (AllPass-from_list_all (is_of_class Symbol) symbol (bare_facts symbol h.0).bytes (length symbol - 1) 0
           (omega (arith, some)));
     })
 solid_symbol symbol written (inr h) =
@@ -205,8 +205,8 @@ solid_amount mark text parts a = elim a.form [
 pub record BarsAmount (q : ℕ → Bool) : Type 0 where
   pub quote : q 34 ≡ false
   pub signs : (q 43 ≡ false) × (q 45 ≡ false)
-  pub symbol : (b : ℕ) → has Symbol b ≡ true → q b ≡ false
-  pub number : (b : ℕ) → has Number b ≡ true → q b ≡ false
+  pub symbol : (b : ℕ) → is_of_class Symbol b ≡ true → q b ≡ false
+  pub number : (b : ℕ) → is_of_class Number b ≡ true → q b ≡ false
 
 pub first_amount : (q : ℕ → Bool) → BarsAmount q → (mark : Mark) (text : List ℕ) (parts : Parts)
     → IsAmount mark text parts → q (slice_index text 0) ≡ false
@@ -228,7 +228,7 @@ first_amount q f mark text parts a = elim a.form [
     at_symbol : (symbol rest : List ℕ) → WritesSymbol parts.symbol symbol → q (slice_index (symbol ++ rest) 0) ≡ false
     at_symbol symbol rest (inl h) =
         rw h.1 (f.symbol (slice_index (parts.symbol ++ rest) 0)
-        (first_passes (has Symbol) parts.symbol rest (bare_facts parts.symbol h.0).bytes
+        (first_passes (is_of_class Symbol) parts.symbol rest (bare_facts parts.symbol h.0).bytes
         (short_some parts.symbol (bare_facts parts.symbol h.0).short)))
     at_symbol symbol rest (inr h) = rw h.1 f.quote
 
@@ -249,14 +249,14 @@ pub record AllowsAmount (q : ℕ → Bool) : Type 0 where
   pub quoted : (b : ℕ) → is_quoted_byte b ≡ true → q b ≡ true
   pub quote : q 34 ≡ true
   pub signs : (q 43 ≡ true) × (q 45 ≡ true)
-  pub blank : (b : ℕ) → has Blank b ≡ true → q b ≡ true
-  pub symbol : (b : ℕ) → has Symbol b ≡ true → q b ≡ true
-  pub number : (b : ℕ) → has Number b ≡ true → q b ≡ true
+  pub blank : (b : ℕ) → is_of_class Blank b ≡ true → q b ≡ true
+  pub symbol : (b : ℕ) → is_of_class Symbol b ≡ true → q b ≡ true
+  pub number : (b : ℕ) → is_of_class Number b ≡ true → q b ≡ true
 
 pub bytes_symbol : (q : ℕ → Bool) → AllowsAmount q → (symbol written : List ℕ) → WritesSymbol symbol written
     → list_all q written ≡ true
 bytes_symbol q f symbol written (inl h) =
-    rw h.1 (all_weaker (has Symbol) q symbol f.symbol (bare_facts symbol h.0).bytes)
+    rw h.1 (all_weaker (is_of_class Symbol) q symbol f.symbol (bare_facts symbol h.0).bytes)
 bytes_symbol q f symbol written (inr h) =
     rw h.1 (and_from (q 34) _ f.quote
     (all_joined q symbol (34 ∷ []) (all_weaker is_quoted_byte q symbol f.quoted (symbol_facts symbol h.0).bytes)
@@ -269,21 +269,21 @@ bytes_amount q f mark text parts a = elim a.form [
       let signs = signed left.outer left.inner left.signed in
       subst (λ (xs : List ℕ). list_all q xs ≡ true) (sym left.whole)
       (all_joined q left.outer _ signs.0 (all_joined q left.symbol _ (symbol left.symbol left.symbolic)
-      (all_joined q left.blanks _ (all_weaker (has Blank) q left.blanks f.blank left.between)
+      (all_joined q left.blanks _ (all_weaker (is_of_class Blank) q left.blanks f.blank left.between)
       (all_joined q left.inner parts.number signs.1 digits))))
   | inr right ↦ subst (λ (xs : List ℕ). list_all q xs ≡ true) (sym right.whole)
       (all_joined q right.outer _ (sign parts.sign right.outer right.signed) (all_joined q parts.number _ digits
-      (all_joined q right.blanks right.symbol (all_weaker (has Blank) q right.blanks f.blank right.between)
+      (all_joined q right.blanks right.symbol (all_weaker (is_of_class Blank) q right.blanks f.blank right.between)
       (symbol right.symbol right.symbolic))))
 ]
   where
     digits : list_all q parts.number ≡ true
-    digits = all_weaker (has Number) q parts.number f.number (number_text mark parts.number a.number).bytes
+    digits = all_weaker (is_of_class Number) q parts.number f.number (number_text mark parts.number a.number).bytes
 
     sign : (s : Sign) (xs : List ℕ) → WritesSign s xs → list_all q xs ≡ true
     sign Absent xs h = rw h refl
-    sign Plus xs h = rw h.1.1 (and_from (q 43) _ f.signs.0 (all_weaker (has Blank) q h.0 f.blank h.1.0))
-    sign Minus xs h = rw h.1.1 (and_from (q 45) _ f.signs.1 (all_weaker (has Blank) q h.0 f.blank h.1.0))
+    sign Plus xs h = rw h.1.1 (and_from (q 43) _ f.signs.0 (all_weaker (is_of_class Blank) q h.0 f.blank h.1.0))
+    sign Minus xs h = rw h.1.1 (and_from (q 45) _ f.signs.1 (all_weaker (is_of_class Blank) q h.0 f.blank h.1.0))
 
     signed : (outer inner : List ℕ)
         → (WritesSign parts.sign outer × (inner ≡ [])) ⊎ ((outer ≡ []) × WritesSign parts.sign inner)

@@ -27,8 +27,9 @@ use Rattle.journal_format.specs.DirectiveForm.{behind_word}
 use Rattle.journal_format.specs.Directive.{commodity_of, format_fault}
 use Rattle.journal_format.specs.CanonicalText.{body_text}
 use Rattle.journal_format.specs.Machine.{Context, State, opened, list_of, with_mark, noted, remarked, with_remark}
-use Rattle.journal_format.specs.Machine.{with_posting, entry_line, begun, entered, directed, unfaulty, behind, by_kind}
-use Rattle.journal_format.specs.Machine.{block_line, is_over, within, step}
+use Rattle.journal_format.specs.Machine.{with_posting, entry_line, begun, entry_context, directed, unfaulty, behind}
+use Rattle.journal_format.specs.Machine.{by_kind}
+use Rattle.journal_format.specs.Machine.{block_line, passes_line_limit, within, line_step}
 use Rattle.journal_format.specs.declared.state.Context.TheVariants as at
 use Rattle.journal_format.specs.Pieces.{IsEntry}
 use Rattle.journal_format.specs.LineFaults.{IsFirst, posting_part_faults, IsSecondMark, PassesBody, directive_faults}
@@ -63,7 +64,8 @@ right_line line l t = and_from (nat_le (length line) 1000) _ (le-leb (length lin
 -- a header
 header_first : (styles : List Style) → (done : List Located) (n : ℕ) (line : List ℕ) (c : Cause)
     → kind_of line ≡ kind.Header → is_line line ≡ true → is_cut_long (cut_header line) ≡ false
-    → (r : Result HeaderParts Cause) → header_of line ≡ r → within styles (behind done (entered n (begun r))) ≡ Err c
+    → (r : Result HeaderParts Cause) → header_of line ≡ r
+    → within styles (behind done (entry_context n (begun r))) ≡ Err c
     → IsFirst ((cause.Date, HasNoDate line) ∷ (cause.Header, HasOpenCode line)
     ∷ (cause.TooLong, PassesBody styles [] line) ∷ []) c
 header_first styles done n line c k right short (Err d) q f =
@@ -75,7 +77,7 @@ header_first styles done n line c k right short (Err d) q f =
 header_first styles done n line c k right short (Ok h) q f =
     let b = header_begins h h.comment (λ text is. header_short line h text right q is) in
     let great = body_told styles done n b.to c
-    (ap (λ (x : Result Txn Cause). within styles (behind done (entered n x))) (sym b.gives) ∙ f) in
+    (ap (λ (x : Result Txn Cause). within styles (behind done (entry_context n x))) (sym b.gives) ∙ f) in
     inr (
       λ undated. not_both (header_of line) h cause.Date q (date_fault line undated),
       inr (
@@ -87,11 +89,11 @@ header_first styles done n line c k right short (Ok h) q f =
 -- a line of that kind, outside a block
 kind_told : (styles : List Style) → (s : State) (n : ℕ) (line : List ℕ) (c : Cause) (place : Open) (k : LineKind)
     → kind_of line ≡ k
-    → (k ≡ kind.Indented → cond (nat_lt 1000 (length line) || is_over s line kind.Indented)
+    → (k ≡ kind.Indented → cond (nat_lt 1000 (length line) || passes_line_limit s line kind.Indented)
     (refused {A = State} cause.TooLong)
     (cond (not (is_text line)) (Err cause.Utf8) (within styles (by_kind styles s n line kind.Indented))) ≡ Err c
     → IsFirst (indented_faults styles place line (is_remark line)) c)
-    → cond (nat_lt 1000 (length line) || is_over s line k) (refused {A = State} cause.TooLong)
+    → cond (nat_lt 1000 (length line) || passes_line_limit s line k) (refused {A = State} cause.TooLong)
     (cond (not (is_text line)) (Err cause.Utf8) (within styles (by_kind styles s n line k))) ≡ Err c
     → IsFirst (kind_faults styles (length (list_of s)) place line k) c
 kind_told styles s n line c place kind.Indented q indented e = indented refl e
@@ -161,7 +163,8 @@ kind_told styles s n line c place kind.Header q indented e =
         ∷ (cause.TooLong, PassesBody styles [] line) ∷ []) c
     more o l t f =
         let sides = or_parts (nat_le 5000 (length (list_of s))) _ o in
-        let rest : within styles (behind (list_of s) (entered n (begun (header_of line)))) ≡ Err c = rw sides.0 at f in
+        let rest : within styles (behind (list_of s) (entry_context n (begun (header_of line)))) ≡ Err c = rw sides.0 at
+        f in
         header_first styles (list_of s) n line c q (right_line line l t) sides.1 (header_of line) refl rest
 
 -- a comment line of an entry
@@ -169,7 +172,7 @@ remark_first : (styles : List Style)
     → (done : List Located) (m : ℕ) (part : List (List ℕ)) (t : Txn) (line : List ℕ) (c : Cause) → IsEntry styles part t
     → kind_of line ≡ kind.Indented → is_remark line ≡ true
     → nat_lt 900 (length_of (comment_of line)) ≡ false → (r : Result Txn Cause) → entry_line styles t line ≡ r
-    → within styles (behind done (entered m r)) ≡ Err c
+    → within styles (behind done (entry_context m r)) ≡ Err c
     → IsFirst ((cause.Marks, IsSecondMark t line) ∷ (cause.TooLong, PassesBody styles part line) ∷ []) c
 unfolding entry_line
 remark_first styles done m part t line c h k sign short (Ok u) q f =
@@ -242,7 +245,7 @@ posting_first : (styles : List Style)
     → (done : List Located) (m : ℕ) (part : List (List ℕ)) (t : Txn) (line : List ℕ) (c : Cause) → IsEntry styles part t
     → kind_of line ≡ kind.Indented → is_remark line ≡ false
     → nat_lt 900 (length_of (comment_of line)) ≡ false → nat_le 1000 (length t.postings) ≡ false
-    → within styles (behind done (entered m (entry_line styles t line))) ≡ Err c
+    → within styles (behind done (entry_context m (entry_line styles t line))) ≡ Err c
     → IsFirst (posting_part_faults styles line ++ (cause.TooLong, PassesBody styles part line) ∷ []) c
 unfolding entry_line
 posting_first styles done m part t line c h k other short room f = by_posting (posting_of styles line) refl
@@ -255,7 +258,7 @@ posting_first styles done m part t line c h k other short room f = by_posting (p
     by_posting (Ok p) q =
         let is : entry_line styles t line ≡ with_posting t (Ok p) = entry_is ∙ ap (with_posting t) q in
         let great = body_told styles done m (record t { postings = t.postings ++ p ∷ [] }) c
-        (ap (λ (x : Result Txn Cause). within styles (behind done (entered m x))) (sym is) ∙ f) in
+        (ap (λ (x : Result Txn Cause). within styles (behind done (entry_context m x))) (sym is) ∙ f) in
         first_behind_none (posting_part_faults styles line) ((cause.TooLong, PassesBody styles part line) ∷ []) c
         (posting_none styles line p q)
         (inl (
@@ -269,14 +272,14 @@ posting_first styles done m part t line c h k other short room f = by_posting (p
     by_posting (Err d) q =
         let is : entry_line styles t line ≡ with_posting t (Err d) = entry_is ∙ ap (with_posting t) q in
         let same = same_err {A = State} d c
-        (ap (λ (x : Result Txn Cause). within styles (behind done (entered m x))) (sym is) ∙ f) in
+        (ap (λ (x : Result Txn Cause). within styles (behind done (entry_context m x))) (sym is) ∙ f) in
         first_in_front (posting_part_faults styles line) ((cause.TooLong, PassesBody styles part line) ∷ []) c
         (posting_told styles line c short (q ∙ ap (λ (x : Cause). Err x) same))
 
 -- the row of an indented line, by its context
 abbrev row : List Style → List Located → Context → ℕ → List ℕ → Result State Cause
 row styles done context n line =
-    cond (nat_lt 1000 (length line) || is_over (record { done = done; context = context }) line kind.Indented)
+    cond (nat_lt 1000 (length line) || passes_line_limit (record { done = done; context = context }) line kind.Indented)
     (refused {A = State} cause.TooLong)
     (cond (not (is_text line)) (Err cause.Utf8)
     (within styles (by_kind styles (record { done = done; context = context }) n line kind.Indented)))
@@ -393,8 +396,8 @@ entry_told styles done m part t n line c h k e = by_sign (is_remark line) refl
 pub step_told : (styles : List Style)
     → (before : List (List ℕ)) (done : List Located) (context : Context) (n : ℕ) (line : List ℕ) (c : Cause)
     → HoldsAt styles before done context → length (done ++ opened context) ≤ 5000
-    → step styles (record { done = done; context = context }) n line ≡ Err c → HasCause styles before line c
-unfolding step
+    → line_step styles (record { done = done; context = context }) n line ≡ Err c → HasCause styles before line c
+unfolding line_step
 step_told styles before done at.Outside n line c h few e = record {
   done = done;
   place = nothing;

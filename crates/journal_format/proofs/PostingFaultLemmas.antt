@@ -22,10 +22,13 @@ use Rattle.journal_lines.specs.Blank.{trim_start}
 use Rattle.journal_lines.specs.AccountName.{is_account}
 use Rattle.journal_lines.proofs.HeaderLemmas.{cond_cases, past}
 use Rattle.journal_format.specs.declared.posting.Posting.{Posting}
-use Rattle.journal_format.specs.PostingParts.{kind_at, is_virtual, name_of, part_of, claim_in, price_in, amount_in}
+use Rattle.journal_format.specs.PostingParts.{kind_at, is_virtual, account_name_of, amount_part_of, claim_in}
+use Rattle.journal_format.specs.PostingParts.{price_text_in, amount_text_in}
 use Rattle.journal_format.specs.PostingParts.{asserted_in}
-use Rattle.journal_format.specs.Posting.{Value, PostingCut, cut_part, cut_posting, with_claim, claimed, with_price}
-use Rattle.journal_format.specs.Posting.{with_amount, without_amount, value_of, posted, judged_posting, posting_of}
+use Rattle.journal_format.specs.Posting.{Value, PostingCut, cut_part, cut_posting, value_with_claim, claimed}
+use Rattle.journal_format.specs.Posting.{with_price}
+use Rattle.journal_format.specs.Posting.{with_amount, without_amount, value_of_cut, posting_with_value, judged_posting}
+use Rattle.journal_format.specs.Posting.{posting_of}
 use Rattle.journal_format.specs.LineFaults.{LineFault, IsFirst, amount_faults, price_faults, where_there, value_faults}
 use Rattle.journal_format.specs.LineFaults.{posting_part_faults}
 use Rattle.journal_format.proofs.FirstLemmas.{AreNone, refused, one_err, not_both}
@@ -183,16 +186,17 @@ none_by (x ∷ xs) h = absurd (let two = sym h ∙ lt-ltb 0 (length (x ∷ xs)) 
 
 -- the faults of an amount part
 value_told : (styles : List Style) (status : Option Status) (name part : List ℕ) (comment : Option (List ℕ)) (c : Cause)
-    → value_of styles (cut_part status name part comment) ≡ Err c → IsFirst (value_faults styles part) c
-unfolding value_of
+    → value_of_cut styles (cut_part status name part comment) ≡ Err c → IsFirst (value_faults styles part) c
+unfolding value_of_cut
 value_told styles status name part comment c e =
-    elim (cond_cases (length (amount_in part) == 0) (without_amount (cut_part status name part comment)) _ (Err c) e) [
-      | inl bare ↦ without (nil_from_empty (amount_in part) bare.0) bare.1
+    elim (cond_cases (length (amount_text_in part) == 0) (without_amount (cut_part status name part comment)) _ (Err c)
+    e) [
+      | inl bare ↦ without (nil_from_empty (amount_text_in part) bare.0) bare.1
       | inr some ↦ inr (
-        λ k. some_of (amount_in part) some.0 k.0,
+        λ k. some_of (amount_text_in part) some.0 k.0,
         inr (
-          λ k. some_of (amount_in part) some.0 k.0,
-          amounted (some_of (amount_in part) some.0) (amount styles (amount_in part)) refl some.1,
+          λ k. some_of (amount_text_in part) some.0 k.0,
+          amounted (some_of (amount_text_in part) some.0) (amount styles (amount_text_in part)) refl some.1,
         ),
       )
     ]
@@ -200,15 +204,15 @@ value_told styles status name part comment c e =
     cut : PostingCut
     cut = cut_part status name part comment
 
-    without : amount_in part ≡ [] → without_amount cut ≡ Err c → IsFirst (value_faults styles part) c
+    without : amount_text_in part ≡ [] → without_amount cut ≡ Err c → IsFirst (value_faults styles part) c
     without none f =
-        elim (cond_cases (nat_lt 0 (length (price_in part))) (refused {A = Value} cause.Amount) _ (Err c) f) [
+        elim (cond_cases (nat_lt 0 (length (price_text_in part))) (refused {A = Value} cause.Amount) _ (Err c) f) [
           | inl priced ↦ inl (
-            (none, some_by (price_in part) priced.0),
+            (none, some_by (price_text_in part) priced.0),
             sym (one_err (refused {A = Value} cause.Amount) cause.Amount c refl priced.1),
           )
           | inr plain ↦ inr (
-            λ k. k.1 (none_by (price_in part) plain.0),
+            λ k. k.1 (none_by (price_text_in part) plain.0),
             elim (cond_cases (nat_lt 0 (length (claim_in part))) (refused {A = Value} cause.Assignment) _ (Err c)
                 plain.1) [
                   | inl asserted ↦ inl (
@@ -221,7 +225,7 @@ value_told styles status name part comment c e =
         ]
 
     asserted : (a : Commodity × ℤ) (p : Option Price) (kind : ClaimKind) (r : Result (Commodity × ℤ) Cause)
-        → with_claim a p kind r ≡ Err c → r ≡ Err c
+        → value_with_claim a p kind r ≡ Err c → r ≡ Err c
     asserted a p kind (Ok k) f = absurd (not_both _ _ c refl f)
     asserted a p kind (Err d) f = ap (λ (x : Cause). Err x) (one_err (refused {A = Value} d) d c refl f)
 
@@ -237,39 +241,40 @@ value_told styles status name part comment c e =
               (asserted a p (kind_at (claim_in part)) (amount styles (asserted_in (claim_in part))) some.1))
         ]
 
-    priced : price_in part ≢ [] → (a : Commodity × ℤ) (r : Result Price Cause) → price styles (price_in part) ≡ r
-        → with_price styles cut a r ≡ Err c
-        → IsFirst (map (where_there (price_in part)) (price_faults styles (price_in part))
+    priced : price_text_in part ≢ [] → (a : Commodity × ℤ) (r : Result Price Cause)
+        → price styles (price_text_in part) ≡ r → with_price styles cut a r ≡ Err c
+        → IsFirst (map (where_there (price_text_in part)) (price_faults styles (price_text_in part))
         ++ map (where_there (claim_in part)) (amount_faults styles (asserted_in (claim_in part)))) c
-    priced some a (Ok p) q f = first_behind_none_there (price_in part) (price_faults styles (price_in part))
+    priced some a (Ok p) q f = first_behind_none_there (price_text_in part) (price_faults styles (price_text_in part))
         (map (where_there (claim_in part)) (amount_faults styles (asserted_in (claim_in part)))) c
-        (price_none styles (price_in part) p q) (claims a (Some p) f)
+        (price_none styles (price_text_in part) p q) (claims a (Some p) f)
     priced some a (Err d) q f =
-        there_first (price_in part) (price_faults styles (price_in part))
+        there_first (price_text_in part) (price_faults styles (price_text_in part))
         (map (where_there (claim_in part)) (amount_faults styles (asserted_in (claim_in part)))) c some
-        (price_told styles (price_in part) c
+        (price_told styles (price_text_in part) c
         (q ∙ ap (λ (x : Cause). Err x) (one_err (refused {A = Value} d) d c refl f)))
 
-    amounted : amount_in part ≢ [] → (r : Result (Commodity × ℤ) Cause) → amount styles (amount_in part) ≡ r
+    amounted : amount_text_in part ≢ [] → (r : Result (Commodity × ℤ) Cause) → amount styles (amount_text_in part) ≡ r
         → with_amount styles cut r ≡ Err c
-        → IsFirst (map (where_there (amount_in part)) (amount_faults styles (amount_in part))
-        ++ (map (where_there (price_in part)) (price_faults styles (price_in part))
+        → IsFirst (map (where_there (amount_text_in part)) (amount_faults styles (amount_text_in part))
+        ++ (map (where_there (price_text_in part)) (price_faults styles (price_text_in part))
         ++ map (where_there (claim_in part)) (amount_faults styles (asserted_in (claim_in part))))) c
     amounted some (Err d) q f =
-        there_first (amount_in part) (amount_faults styles (amount_in part))
-        (map (where_there (price_in part)) (price_faults styles (price_in part))
+        there_first (amount_text_in part) (amount_faults styles (amount_text_in part))
+        (map (where_there (price_text_in part)) (price_faults styles (price_text_in part))
         ++ map (where_there (claim_in part)) (amount_faults styles (asserted_in (claim_in part)))) c some
-        (amount_told styles (amount_in part) c
+        (amount_told styles (amount_text_in part) c
         (q ∙ ap (λ (x : Cause). Err x) (one_err (refused {A = Value} d) d c refl f)))
-    amounted some (Ok a) q f = first_behind_none_there (amount_in part) (amount_faults styles (amount_in part))
-        (map (where_there (price_in part)) (price_faults styles (price_in part))
+    amounted some (Ok a) q f =
+        first_behind_none_there (amount_text_in part) (amount_faults styles (amount_text_in part))
+        (map (where_there (price_text_in part)) (price_faults styles (price_text_in part))
         ++ map (where_there (claim_in part)) (amount_faults styles (asserted_in (claim_in part)))) c
-        (amount_none styles (amount_in part) a q)
-        (elim (cond_cases (length (price_in part) == 0) (claimed styles (claim_in part) a None) _ (Err c) f) [
-          | inl bare ↦ not_there (price_in part) (price_faults styles (price_in part))
+        (amount_none styles (amount_text_in part) a q)
+        (elim (cond_cases (length (price_text_in part) == 0) (claimed styles (claim_in part) a None) _ (Err c) f) [
+          | inl bare ↦ not_there (price_text_in part) (price_faults styles (price_text_in part))
               (map (where_there (claim_in part)) (amount_faults styles (asserted_in (claim_in part)))) c
-              (nil_from_empty (price_in part) bare.0) (claims a None bare.1)
-          | inr more ↦ priced (some_of (price_in part) more.0) a (price styles (price_in part)) refl more.1
+              (nil_from_empty (price_text_in part) bare.0) (claims a None bare.1)
+          | inr more ↦ priced (some_of (price_text_in part) more.0) a (price styles (price_text_in part)) refl more.1
         ])
 
 -- the faults of a posting line's parts
@@ -280,22 +285,22 @@ posting_told styles line c short e =
     elim (cond_cases (nat_lt 900 (length_of (comment_of line))) (refused {A = Posting} cause.TooLong) _ (Err c) e) [
       | inl long ↦ absurd (let two = sym short ∙ long.0 in cc)
       | inr fits ↦
-          elim (cond_cases (is_virtual (name_of line)) (refused {A = Posting} cause.Virtual) _ (Err c) fits.1) [
+          elim (cond_cases (is_virtual (account_name_of line)) (refused {A = Posting} cause.Virtual) _ (Err c) fits.1) [
             | inl virtual ↦ inl (
               virtual.0,
               sym (one_err (refused {A = Posting} cause.Virtual) cause.Virtual c refl virtual.1),
             )
             | inr real ↦ inr (
               λ k. (let two = sym real.0 ∙ k in absurd cc),
-              elim (cond_cases (not (is_account (name_of line))) (refused {A = Posting} cause.Account) _ (Err c)
+              elim (cond_cases (not (is_account (account_name_of line))) (refused {A = Posting} cause.Account) _ (Err c)
                   real.1) [
                     | inl ill ↦ inl (
                       λ k. (let two = sym ill.0 ∙ ap not k in absurd cc),
                       sym (one_err (refused {A = Posting} cause.Account) cause.Account c refl ill.1),
                     )
                     | inr good ↦ inr (
-                      λ k. k (kept (is_account (name_of line)) good.0),
-                      valued (value_of styles cut) refl good.1,
+                      λ k. k (kept (is_account (account_name_of line)) good.0),
+                      valued (value_of_cut styles cut) refl good.1,
                     )
                   ],
             )
@@ -303,16 +308,18 @@ posting_told styles line c short e =
     ]
   where
     cut : PostingCut
-    cut = cut_part (status_at (trim_start (front_of line))) (name_of line) (part_of line) (comment_of line)
+    cut =
+        cut_part (status_at (trim_start (front_of line))) (account_name_of line) (amount_part_of line) (comment_of line)
 
     kept : (b : Bool) → not b ≡ false → b ≡ true
     kept true h = refl
     kept false h = absurd cc
 
-    valued : (r : Result Value Cause) → value_of styles cut ≡ r → posted cut r ≡ Err c
-        → IsFirst (value_faults styles (part_of line)) c
+    valued : (r : Result Value Cause) → value_of_cut styles cut ≡ r → posting_with_value cut r ≡ Err c
+        → IsFirst (value_faults styles (amount_part_of line)) c
     valued (Ok v) q f = absurd (not_both _ _ c refl f)
-    valued (Err d) q f = value_told styles (status_at (trim_start (front_of line))) (name_of line) (part_of line)
+    valued (Err d) q f =
+        value_told styles (status_at (trim_start (front_of line))) (account_name_of line) (amount_part_of line)
         (comment_of line) c (q ∙ ap (λ (x : Cause). Err x) (one_err (refused {A = Posting} d) d c refl f))
 
 -- ---- a line that is read has none of the faults
@@ -330,14 +337,15 @@ none_absent text [] h = tt
 none_absent text (f ∷ fs) h = (λ k. k.0 h, none_absent text fs h)
 
 value_none : (styles : List Style) (status : Option Status) (name part : List ℕ) (comment : Option (List ℕ)) (v : Value)
-    → value_of styles (cut_part status name part comment) ≡ Ok v → AreNone (value_faults styles part)
-unfolding value_of
+    → value_of_cut styles (cut_part status name part comment) ≡ Ok v → AreNone (value_faults styles part)
+unfolding value_of_cut
 value_none styles status name part comment v e =
-    elim (cond_cases (length (amount_in part) == 0) (without_amount (cut_part status name part comment)) _ (Ok v) e) [
-      | inl bare ↦ without (nil_from_empty (amount_in part) bare.0) bare.1
+    elim (cond_cases (length (amount_text_in part) == 0) (without_amount (cut_part status name part comment)) _ (Ok v)
+    e) [
+      | inl bare ↦ without (nil_from_empty (amount_text_in part) bare.0) bare.1
       | inr some ↦ (
-        λ k. some_of (amount_in part) some.0 k.0,
-        (λ k. some_of (amount_in part) some.0 k.0, amounted (amount styles (amount_in part)) refl some.1),
+        λ k. some_of (amount_text_in part) some.0 k.0,
+        (λ k. some_of (amount_text_in part) some.0 k.0, amounted (amount styles (amount_text_in part)) refl some.1),
       )
     ]
   where
@@ -345,28 +353,28 @@ value_none styles status name part comment v e =
     cut = cut_part status name part comment
 
     prices : List LineFault
-    prices = map (where_there (price_in part)) (price_faults styles (price_in part))
+    prices = map (where_there (price_text_in part)) (price_faults styles (price_text_in part))
 
-    without : amount_in part ≡ [] → without_amount cut ≡ Ok v → AreNone (value_faults styles part)
+    without : amount_text_in part ≡ [] → without_amount cut ≡ Ok v → AreNone (value_faults styles part)
     without none f =
-        elim (cond_cases (nat_lt 0 (length (price_in part))) (refused {A = Value} cause.Amount) _ (Ok v) f) [
+        elim (cond_cases (nat_lt 0 (length (price_text_in part))) (refused {A = Value} cause.Amount) _ (Ok v) f) [
           | inl priced ↦ absurd (not_both _ v cause.Amount priced.1 refl)
           | inr plain ↦
               elim (cond_cases (nat_lt 0 (length (claim_in part))) (refused {A = Value} cause.Assignment) _ (Ok v)
               plain.1) [
                 | inl asserted ↦ absurd (not_both _ v cause.Assignment asserted.1 refl)
                 | inr nothing ↦ (
-                  λ k. k.1 (none_by (price_in part) plain.0),
+                  λ k. k.1 (none_by (price_text_in part) plain.0),
                   (
                     λ k. k.1 (none_by (claim_in part) nothing.0),
-                    both_none (map (where_there (amount_in part)) (amount_faults styles (amount_in part)))
-                        (map (where_there (price_in part)) (price_faults styles (price_in part))
+                    both_none (map (where_there (amount_text_in part)) (amount_faults styles (amount_text_in part)))
+                        (map (where_there (price_text_in part)) (price_faults styles (price_text_in part))
                         ++ map (where_there (claim_in part)) (amount_faults styles (asserted_in (claim_in part))))
-                        (none_absent (amount_in part) (amount_faults styles (amount_in part)) none)
-                        (both_none (map (where_there (price_in part)) (price_faults styles (price_in part)))
+                        (none_absent (amount_text_in part) (amount_faults styles (amount_text_in part)) none)
+                        (both_none (map (where_there (price_text_in part)) (price_faults styles (price_text_in part)))
                         (map (where_there (claim_in part)) (amount_faults styles (asserted_in (claim_in part))))
-                        (none_absent (price_in part) (price_faults styles (price_in part))
-                        (none_by (price_in part) plain.0))
+                        (none_absent (price_text_in part) (price_faults styles (price_text_in part))
+                        (none_by (price_text_in part) plain.0))
                         (none_absent (claim_in part) (amount_faults styles (asserted_in (claim_in part)))
                         (none_by (claim_in part) nothing.0))),
                   ),
@@ -386,37 +394,40 @@ value_none styles status name part comment v e =
         ]
       where
         asserted : (kind : ClaimKind) (r : Result (Commodity × ℤ) Cause)
-            → amount styles (asserted_in (claim_in part)) ≡ r → with_claim a p kind r ≡ Ok v
+            → amount styles (asserted_in (claim_in part)) ≡ r → value_with_claim a p kind r ≡ Ok v
             → AreNone (amount_faults styles (asserted_in (claim_in part)))
         asserted kind (Ok k) q g = amount_none styles (asserted_in (claim_in part)) k q
         asserted kind (Err d) q g = absurd (not_both (refused {A = Value} d) v d g refl)
 
-    priced : (a : Commodity × ℤ) (r : Result Price Cause) → price styles (price_in part) ≡ r
+    priced : (a : Commodity × ℤ) (r : Result Price Cause) → price styles (price_text_in part) ≡ r
         → with_price styles cut a r ≡ Ok v
-        → AreNone (map (where_there (price_in part)) (price_faults styles (price_in part))
+        → AreNone (map (where_there (price_text_in part)) (price_faults styles (price_text_in part))
         ++ map (where_there (claim_in part)) (amount_faults styles (asserted_in (claim_in part))))
-    priced a (Ok p) q f = both_none (map (where_there (price_in part)) (price_faults styles (price_in part)))
+    priced a (Ok p) q f = both_none (map (where_there (price_text_in part)) (price_faults styles (price_text_in part)))
         (map (where_there (claim_in part)) (amount_faults styles (asserted_in (claim_in part))))
-        (none_there (price_in part) (price_faults styles (price_in part)) (price_none styles (price_in part) p q))
-        (claims a (Some p) f)
+        (none_there (price_text_in part) (price_faults styles (price_text_in part))
+        (price_none styles (price_text_in part) p q)) (claims a (Some p) f)
     priced a (Err d) q f = absurd (not_both (refused {A = Value} d) v d f refl)
 
-    amounted : (r : Result (Commodity × ℤ) Cause) → amount styles (amount_in part) ≡ r → with_amount styles cut r ≡ Ok v
-        → AreNone (map (where_there (amount_in part)) (amount_faults styles (amount_in part))
-        ++ (map (where_there (price_in part)) (price_faults styles (price_in part))
+    amounted : (r : Result (Commodity × ℤ) Cause) → amount styles (amount_text_in part) ≡ r
+        → with_amount styles cut r ≡ Ok v
+        → AreNone (map (where_there (amount_text_in part)) (amount_faults styles (amount_text_in part))
+        ++ (map (where_there (price_text_in part)) (price_faults styles (price_text_in part))
         ++ map (where_there (claim_in part)) (amount_faults styles (asserted_in (claim_in part)))))
     amounted (Err d) q f = absurd (not_both (refused {A = Value} d) v d f refl)
-    amounted (Ok a) q f = both_none (map (where_there (amount_in part)) (amount_faults styles (amount_in part)))
-        (map (where_there (price_in part)) (price_faults styles (price_in part))
+    amounted (Ok a) q f =
+        both_none (map (where_there (amount_text_in part)) (amount_faults styles (amount_text_in part)))
+        (map (where_there (price_text_in part)) (price_faults styles (price_text_in part))
         ++ map (where_there (claim_in part)) (amount_faults styles (asserted_in (claim_in part))))
-        (none_there (amount_in part) (amount_faults styles (amount_in part)) (amount_none styles (amount_in part) a q))
-        (elim (cond_cases (length (price_in part) == 0) (claimed styles (claim_in part) a None) _ (Ok v) f) [
-          | inl bare ↦ both_none (map (where_there (price_in part)) (price_faults styles (price_in part)))
+        (none_there (amount_text_in part) (amount_faults styles (amount_text_in part))
+        (amount_none styles (amount_text_in part) a q))
+        (elim (cond_cases (length (price_text_in part) == 0) (claimed styles (claim_in part) a None) _ (Ok v) f) [
+          | inl bare ↦ both_none (map (where_there (price_text_in part)) (price_faults styles (price_text_in part)))
               (map (where_there (claim_in part)) (amount_faults styles (asserted_in (claim_in part))))
-              (none_absent (price_in part) (price_faults styles (price_in part))
-              (nil_from_empty (price_in part) bare.0))
+              (none_absent (price_text_in part) (price_faults styles (price_text_in part))
+              (nil_from_empty (price_text_in part) bare.0))
               (claims a None bare.1)
-          | inr more ↦ priced a (price styles (price_in part)) refl more.1
+          | inr more ↦ priced a (price styles (price_text_in part)) refl more.1
         ])
 
 pub posting_none : (styles : List Style) (line : List ℕ) (p : Posting) → posting_of styles line ≡ Ok p
@@ -424,21 +435,23 @@ pub posting_none : (styles : List Style) (line : List ℕ) (p : Posting) → pos
 unfolding judged_posting cut_posting
 posting_none styles line p e =
     let one = past (nat_lt 900 (length_of (comment_of line))) _ _ p e in
-    let two = past (is_virtual (name_of line)) _ _ p one.1 in
-    let three = past (not (is_account (name_of line))) _ _ p two.1 in (
+    let two = past (is_virtual (account_name_of line)) _ _ p one.1 in
+    let three = past (not (is_account (account_name_of line))) _ _ p two.1 in (
       λ k. (let both = sym two.0 ∙ k in absurd cc),
-      (λ k. k (kept (is_account (name_of line)) three.0), valued (value_of styles cut) refl three.1),
+      (λ k. k (kept (is_account (account_name_of line)) three.0), valued (value_of_cut styles cut) refl three.1),
     )
   where
     cut : PostingCut
-    cut = cut_part (status_at (trim_start (front_of line))) (name_of line) (part_of line) (comment_of line)
+    cut =
+        cut_part (status_at (trim_start (front_of line))) (account_name_of line) (amount_part_of line) (comment_of line)
 
     kept : (b : Bool) → not b ≡ false → b ≡ true
     kept true h = refl
     kept false h = absurd cc
 
-    valued : (r : Result Value Cause) → value_of styles cut ≡ r → posted cut r ≡ Ok p
-        → AreNone (value_faults styles (part_of line))
+    valued : (r : Result Value Cause) → value_of_cut styles cut ≡ r → posting_with_value cut r ≡ Ok p
+        → AreNone (value_faults styles (amount_part_of line))
     valued (Ok v) q f =
-        value_none styles (status_at (trim_start (front_of line))) (name_of line) (part_of line) (comment_of line) v q
+        value_none styles (status_at (trim_start (front_of line))) (account_name_of line) (amount_part_of line)
+        (comment_of line) v q
     valued (Err d) q f = absurd (not_both (refused {A = Posting} d) p d f refl)

@@ -18,7 +18,7 @@ use Rattle.money_core.specs.declared.class.Class.TheVariants.{Blank, Symbol, Num
 use Rattle.money_core.specs.declared.claim.Claim.{Claim}
 use Rattle.money_core.specs.declared.claim.ClaimKind.{ClaimKind}
 use Rattle.money_core.specs.declared.claim.ClaimKind.TheVariants.{Exact, Sole, ExactIn, SoleIn}
-use Rattle.money_core.specs.Class.{has}
+use Rattle.money_core.specs.Class.{is_of_class}
 use Rattle.money_core.specs.Symbol.{is_quoted_byte}
 use Rattle.money_core.specs.Amount.{WritesAmount}
 use Rattle.money_core.specs.Price.{price_mark, is_total, WritesPrice}
@@ -33,7 +33,7 @@ use Rattle.journal_lines.specs.Blank.{is_blank, first_solid, trim_start, trim_en
 use Rattle.journal_lines.specs.Comment.{front_of, comment_of}
 use Rattle.journal_lines.specs.Header.{status_at, behind_status, length_of}
 use Rattle.journal_lines.specs.HeaderForm.{status_text}
-use Rattle.journal_lines.specs.AccountName.{is_account, is_name_byte, ends_name, name_end}
+use Rattle.journal_lines.specs.AccountName.{is_account, is_account_name_byte, ends_name, name_end}
 use Rattle.journal_lines.proofs.AccountLemmas.{EndsName, name_whole, account_unbroken}
 use Rattle.journal_lines.proofs.CutLemmas.{trim_start_behind, trim_start_same, trim_start_blanks, trim_end_same}
 use Rattle.journal_lines.proofs.CutLemmas.{trim_inside, all_joined, all_weaker, first_kept, trim_end_trimmed}
@@ -44,8 +44,10 @@ use Rattle.journal_lines.proofs.HeaderFormLemmas.{end_blanks, split_end, blanks_
 use Rattle.journal_lines.proofs.HeaderFormLemmas.{status_no_semicolon, blank_no_semicolon}
 use Rattle.journal_format.specs.declared.posting.Posting.{Posting}
 use Rattle.journal_format.specs.PostingParts.{outside, before_mark, from_mark, kind_at, is_virtual}
-use Rattle.journal_format.specs.Posting.{Value, PostingCut, cut_part, cut_posting, claim_sign, claimed, with_claim}
-use Rattle.journal_format.specs.Posting.{with_price, with_amount, value_of, posted, judged_posting, posting_of}
+use Rattle.journal_format.specs.Posting.{Value, PostingCut, cut_part, cut_posting, claim_sign, claimed}
+use Rattle.journal_format.specs.Posting.{value_with_claim}
+use Rattle.journal_format.specs.Posting.{with_price, with_amount, value_of_cut, posting_with_value, judged_posting}
+use Rattle.journal_format.specs.Posting.{posting_of}
 use Rattle.journal_format.specs.PostingForm.{WritesClaim, IsPricePart, IsClaimPart, IsAmountPart, is_wide}
 use Rattle.journal_format.specs.PostingForm.{IsPostingText}
 use Rattle.journal_format.proofs.CutUtf8Lemmas.{outside_mark}
@@ -61,31 +63,31 @@ use Rattle.journal_format.proofs.PostingLemmas.{no_shout, no_bracket}
 equals_free : IsFree (λ b. b == 61)
 equals_free = record { quote = refl; signs = (refl, refl); blank = blank_is; symbol = symbol_is }
   where
-    blank_is : (b : ℕ) → has Blank b ≡ true → (b == 61) ≡ false
+    blank_is : (b : ℕ) → is_of_class Blank b ≡ true → (b == 61) ≡ false
     blank_is b h = grind (arith, common_steps)
 
-    symbol_is : (b : ℕ) → has Symbol b ≡ true → (b == 61) ≡ false
+    symbol_is : (b : ℕ) → is_of_class Symbol b ≡ true → (b == 61) ≡ false
     symbol_is b h = grind (arith, common_steps)
 
 at_free : IsFree (λ b. b == 64)
 at_free = record { quote = refl; signs = (refl, refl); blank = blank_is; symbol = symbol_is }
   where
-    blank_is : (b : ℕ) → has Blank b ≡ true → (b == 64) ≡ false
+    blank_is : (b : ℕ) → is_of_class Blank b ≡ true → (b == 64) ≡ false
     blank_is b h = grind (arith, common_steps)
 
-    symbol_is : (b : ℕ) → has Symbol b ≡ true → (b == 64) ≡ false
+    symbol_is : (b : ℕ) → is_of_class Symbol b ≡ true → (b == 64) ≡ false
     symbol_is b h = grind (arith, common_steps)
 
-number_no_equals : (b : ℕ) → has Number b ≡ true → (b == 61) ≡ false
+number_no_equals : (b : ℕ) → is_of_class Number b ≡ true → (b == 61) ≡ false
 number_no_equals b h = grind (arith, common_steps)
 
-number_no_star : (b : ℕ) → has Number b ≡ true → (b == 42) ≡ false
+number_no_star : (b : ℕ) → is_of_class Number b ≡ true → (b == 42) ≡ false
 number_no_star b h = grind (arith, common_steps)
 
-symbol_no_equals : (b : ℕ) → has Symbol b ≡ true → (b == 61) ≡ false
+symbol_no_equals : (b : ℕ) → is_of_class Symbol b ≡ true → (b == 61) ≡ false
 symbol_no_equals b h = grind (arith, common_steps)
 
-symbol_no_star : (b : ℕ) → has Symbol b ≡ true → (b == 42) ≡ false
+symbol_no_star : (b : ℕ) → is_of_class Symbol b ≡ true → (b == 42) ≡ false
 symbol_no_star b h = grind (arith, common_steps)
 
 pub bars_blank : BarsAmount is_blank
@@ -110,10 +112,10 @@ allows_no_comment = record {
     quoted_is : (b : ℕ) → is_quoted_byte b ≡ true → not (b == 59) ≡ true
     quoted_is b h = grind (arith, common_steps)
 
-    symbol_is : (b : ℕ) → has Symbol b ≡ true → not (b == 59) ≡ true
+    symbol_is : (b : ℕ) → is_of_class Symbol b ≡ true → not (b == 59) ≡ true
     symbol_is b h = grind (arith, common_steps)
 
-    number_is : (b : ℕ) → has Number b ≡ true → not (b == 59) ≡ true
+    number_is : (b : ℕ) → is_of_class Number b ≡ true → not (b == 59) ≡ true
     number_is b h = grind (arith, common_steps)
 
 -- ---- a line in the form of a posting reads as it
@@ -332,8 +334,8 @@ price_read styles text (Some p) w cut e a r h =
 pub value_read : (styles : List Style) (text : List ℕ) (a : Option (Commodity × ℤ)) (p : Option Price)
     (k : Option Claim) (status : Option Status) (name : List ℕ) (comment : Option (List ℕ))
     → IsAmountPart styles text a p k
-    → value_of styles (cut_part status name text comment) ≡ Ok (record { amount = a; price = p; claim = k })
-unfolding value_of outside trim_end
+    → value_of_cut styles (cut_part status name text comment) ≡ Ok (record { amount = a; price = p; claim = k })
+unfolding value_of_cut outside trim_end
 value_read styles text None p k status name comment w = rw (w.0, w.1, w.2) refl
 value_read styles text (Some a) p k status name comment w =
     let x = w.amount in
@@ -360,7 +362,7 @@ value_read styles text (Some a) p k status name comment w =
     read : (cut : PostingCut) (xs : List ℕ) → cut.amount ≡ xs → 0 < length xs → amount styles xs ≡ Ok a
         → cond (length cut.price == 0) (claimed styles cut.claim a None)
         (with_price styles cut a (price styles cut.price)) ≡ Ok (record { amount = Some a; price = p; claim = k })
-        → value_of styles cut ≡ Ok (record { amount = Some a; price = p; claim = k })
+        → value_of_cut styles cut ≡ Ok (record { amount = Some a; price = p; claim = k })
     read cut xs e some reads rest = rw (e, ne_eqb (length xs) 0 (λ z. omega (arith, z, some)), reads) rest
 
 -- the bytes of an amount part
@@ -493,7 +495,7 @@ cut_is styles line p w =
     (all_joined (λ b. not (b == 59)) (status_text p.status) (w.status_gap ++ text) (status_no_semicolon p.status)
     (all_joined (λ b. not (b == 59)) w.status_gap text (free w.status_gap later.0)
     (all_joined (λ b. not (b == 59)) p.account behind
-    (all_weaker is_name_byte (λ b. not (b == 59)) p.account name_no_semicolon good.bytes)
+    (all_weaker is_account_name_byte (λ b. not (b == 59)) p.account name_no_semicolon good.bytes)
     (all_joined (λ b. not (b == 59)) w.gap (w.part ++ w.end_gap) (free w.gap last.0)
     (all_joined (λ b. not (b == 59)) w.part w.end_gap (part_free styles w.part p.amount p.price p.claim w.value)
     (free w.end_gap last.1)))))) in
@@ -644,7 +646,7 @@ claim_form styles text a p v sign h = elim (cond_cases (length text == 0) _ _ _ 
     behind = drop (length (claim_sign (kind_at text))) text
 
     at : (r : Result (Commodity × ℤ) Cause) → amount styles (trim_start behind) ≡ r
-        → with_claim a p (kind_at text) r ≡ Ok v → slice_index text 0 ≡ 61 → ClaimForm styles text a p v
+        → value_with_claim a p (kind_at text) r ≡ Ok v → slice_index text 0 ≡ 61 → ClaimForm styles text a p v
     at (Err c) e k first = absurd cc
     at (Ok b) e k first = record {
       claim = Some (record { kind = kind_at text; unit = b.0; qty = b.1 });
@@ -728,8 +730,8 @@ amount_form styles text v a p h e none some f =
 -- the value of a text without blanks at its ends has the form of an amount part
 pub value_form : (styles : List Style) (text : List ℕ) (v : Value) (status : Option Status) (name : List ℕ)
     (comment : Option (List ℕ)) → is_trimmed text ≡ true
-    → value_of styles (cut_part status name text comment) ≡ Ok v → IsAmountPart styles text v.amount v.price v.claim
-unfolding value_of
+    → value_of_cut styles (cut_part status name text comment) ≡ Ok v → IsAmountPart styles text v.amount v.price v.claim
+unfolding value_of_cut
 value_form styles text v status name comment h r = elim (cond_cases (length inner == 0) _ _ _ r) [
   | inl nothing ↦
       let one = past (nat_lt 0 (length price_text)) _ _ v nothing.1 in
@@ -839,7 +841,7 @@ reads_form styles line p e =
     let one = past (nat_lt 900 (length_of comment)) _ _ p e in
     let two = past (is_virtual name) _ _ p one.1 in
     let three = past (not (is_account name)) _ _ p two.1 in
-    valued (value_of styles cut) refl (ltb-false 900 (length_of comment) one.0) (kept _ three.0) three.1
+    valued (value_of_cut styles cut) refl (ltb-false 900 (length_of comment) one.0) (kept _ three.0) three.1
   where
     comment : Option (List ℕ)
     comment = comment_of line
@@ -870,8 +872,8 @@ reads_form styles line p e =
         → (a ++ (b ++ (c ++ (d ++ (f ++ (g ++ h)))))) ++ i ≡ a ++ (b ++ (c ++ (d ++ (f ++ (g ++ (h ++ i))))))
     regroup a b c d f g h i = simp append_assoc
 
-    valued : (r : Result Value Cause) → value_of styles cut ≡ r → length_of comment ≤ 900 → is_account name ≡ true
-        → posted cut r ≡ Ok p → IsPostingText styles line p
+    valued : (r : Result Value Cause) → value_of_cut styles cut ≡ r → length_of comment ≤ 900 → is_account name ≡ true
+        → posting_with_value cut r ≡ Ok p → IsPostingText styles line p
     valued (Err c) q short good k = absurd cc
     valued (Ok v) q short good k =
         let same : record {

@@ -17,7 +17,7 @@ use Rattle.journal_format.specs.declared.txn.Txn.{Txn}
 use Rattle.journal_format.specs.CanonicalText.{posting_line, posting_lines, mark_lines, txn_lines, txn_text, body_text}
 use Rattle.journal_format.specs.Printable.{is_value, is_posting}
 use Rattle.journal_format.specs.PrintedParts.{whole_line, header_part, mark_part, comment_part, comments_part}
-use Rattle.journal_format.specs.PrintedParts.{posting_part, postings_part, rest_part}
+use Rattle.journal_format.specs.PrintedParts.{posting_part, postings_part, comments_and_postings_part}
 
 -- a step that fails after one that did not leaves the front
 pub err_behind : {T E : Type 0} (r : Result T E) (a b d x : List ℕ) → b ≡ a ++ x → OnErr r (take (length b) d ≡ b)
@@ -61,7 +61,8 @@ postings_parts styles (p ∷ ps) =
 
 -- the lines below header and mark
 rest_parts : (styles : List Style) (t : Txn)
-    → ended (map comment_line t.comments ++ flat_map (posting_lines styles) t.postings) ≡ rest_part styles t
+    → ended (map comment_line t.comments ++ flat_map (posting_lines styles) t.postings) ≡ comments_and_postings_part
+    styles t
 rest_parts styles t =
     ended-append (map comment_line t.comments) (flat_map (posting_lines styles) t.postings)
     ∙ (ap (λ (xs : List ℕ). xs ++ ended (flat_map (posting_lines styles) t.postings)) (comments_parts t.comments)
@@ -73,13 +74,14 @@ mark_parts None = refl
 mark_parts (Some mark) = append-nil _
 
 -- a body by its parts
-pub body_parts : (styles : List Style) (t : Txn) → header_part t ++ rest_part styles t ≡ body_text styles t
+pub body_parts : (styles : List Style) (t : Txn) → header_part t
+    ++ comments_and_postings_part styles t ≡ body_text styles t
 unfolding txn_lines
 body_parts styles t = ap (λ (xs : List ℕ). header_part t ++ xs) (sym (rest_parts styles t))
 
 -- a transaction's text by its parts
 pub txn_parts : (styles : List Style) (t : Txn)
-    → header_part t ++ (mark_part t.mark ++ rest_part styles t) ≡ txn_text styles t
+    → header_part t ++ (mark_part t.mark ++ comments_and_postings_part styles t) ≡ txn_text styles t
 unfolding txn_lines
 txn_parts styles t =
     let rest = map comment_line t.comments ++ flat_map (posting_lines styles) t.postings in

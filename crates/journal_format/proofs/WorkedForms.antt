@@ -27,11 +27,11 @@ use Rattle.journal_lines.specs.LineKind.{is_block_start, is_block_end, is_commod
 use Rattle.journal_lines.specs.AccountName.{is_account, name_end}
 use Rattle.journal_format.specs.declared.posting.Posting.{Posting}
 use Rattle.journal_format.specs.PostingParts.{outside, kind_at}
-use Rattle.journal_format.specs.Posting.{cut_posting, value_of, judged_posting, posting_of}
+use Rattle.journal_format.specs.Posting.{cut_posting, value_of_cut, judged_posting, posting_of}
 use Rattle.journal_format.specs.PostingForm.{IsPostingText}
 use Rattle.journal_format.specs.DirectiveForm.{NamesCommodity, IsBelow}
 use Rattle.journal_format.specs.Directive.{is_format, format_fault}
-use Rattle.journal_format.specs.Machine.{step, journal_of}
+use Rattle.journal_format.specs.Machine.{line_step, journal_of}
 use Rattle.journal_format.specs.Pieces.{HaveList}
 use Rattle.journal_format.specs.Pieces.ArePieces.{nothing, led, alone, remark}
 use Rattle.journal_format.specs.Pieces.IsLed.{skipped}
@@ -290,7 +290,7 @@ pub no_postings : ((p : Posting) → IsPostingText styles (codes " assets:x  = 5
     × ((p : Posting) → IsPostingText styles (codes " a  5 EUR x") p → ⊥)
     × ((p : Posting) → IsPostingText styles (codes " * * a") p → ⊥)
 unfolding trim_start trim_end front_of comment_of status_at behind_status is_account name_end outside cut_posting
-    kind_at value_of judged_posting cut_symbol left_parts right_symbol amount_parts quantity_in amount_of_parts
+    kind_at value_of_cut judged_posting cut_symbol left_parts right_symbol amount_parts quantity_in amount_of_parts
     unit_cost total_cost price_of_parts price is_utf8 chars encode
 no_postings = (
   lacks (codes " assets:x  = 5.00 EUR") cause.Assignment refl,
@@ -385,7 +385,7 @@ nothing_kept = record {
 -- the first fault of a text: an indented line after a blank line belongs to nothing
 pub stray_line : IsFirstFault styles (codes "payee x\n  y\n\n  z\n2024-02-30 x")
     (record { line = 4; cause = cause.StrayLine })
-unfolding journal_of step is_remark first_word trim_start trim_end is_utf8 chars encode is_block_start is_block_end
+unfolding journal_of line_step is_remark first_word trim_start trim_end is_utf8 chars encode is_block_start is_block_end
     is_commodity_word is_skipped_word
 stray_line = (faults_exactly styles (codes "payee x\n  y\n\n  z\n2024-02-30 x")
     (record { line = 4; cause = cause.StrayLine })).0 refl

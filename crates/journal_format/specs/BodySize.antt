@@ -32,8 +32,8 @@ abbrev pub GrowsBy : List Style → Txn → Txn → ℕ → Type 0
 GrowsBy styles before after grown = txn_size styles after ≡ txn_size styles before + grown
 
 -- the same in all styles
-abbrev pub HasGrown : Txn → Txn → ℕ → Type 0
-HasGrown before after grown = (styles : List Style) → GrowsBy styles before after grown
+abbrev pub BodyGrowsBy : Txn → Txn → ℕ → Type 0
+BodyGrowsBy before after grown = (styles : List Style) → GrowsBy styles before after grown
 
 -- the body has so many bytes, in all styles
 abbrev pub IsSize : Txn → ℕ → Type 0

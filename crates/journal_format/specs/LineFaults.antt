@@ -23,7 +23,8 @@ use Rattle.journal_format.specs.declared.txn.Txn.{Txn}
 use Rattle.journal_format.specs.Line.{is_text}
 use Rattle.journal_format.specs.Mark.{mark_of}
 use Rattle.journal_format.specs.DirectiveForm.{IsSampleOf, IsSymbolOf, behind_word}
-use Rattle.journal_format.specs.PostingParts.{name_of, is_virtual, part_of, amount_in, price_in, claim_in, asserted_in}
+use Rattle.journal_format.specs.PostingParts.{account_name_of, is_virtual, amount_part_of, amount_text_in}
+use Rattle.journal_format.specs.PostingParts.{price_text_in, claim_in, asserted_in}
 use Rattle.journal_format.specs.Pieces.{IsEntryOf, posting_limit, transaction_limit, body_limit}
 
 -- a fault that a line may have: its cause, and what is so where the line has it
@@ -89,18 +90,18 @@ where_there text f = (f.0, (text ≢ []) × f.1)
 -- of an amount part: a price or an assertion without an amount; then the amount, the price, the asserted amount
 abbrev pub value_faults : List Style → List ℕ → List LineFault
 value_faults styles part =
-    (Amount, (amount_in part ≡ []) × (price_in part ≢ []))
-    ∷ (Assignment, (amount_in part ≡ []) × (claim_in part ≢ []))
-    ∷ (map (where_there (amount_in part)) (amount_faults styles (amount_in part))
-    ++ (map (where_there (price_in part)) (price_faults styles (price_in part))
+    (Amount, (amount_text_in part ≡ []) × (price_text_in part ≢ []))
+    ∷ (Assignment, (amount_text_in part ≡ []) × (claim_in part ≢ []))
+    ∷ (map (where_there (amount_text_in part)) (amount_faults styles (amount_text_in part))
+    ++ (map (where_there (price_text_in part)) (price_faults styles (price_text_in part))
     ++ map (where_there (claim_in part)) (amount_faults styles (asserted_in (claim_in part)))))
 
 -- of the parts of a posting line: its account, which may be that of a virtual posting, and its amount part
 abbrev pub posting_part_faults : List Style → List ℕ → List LineFault
 posting_part_faults styles line =
-    (Virtual, is_virtual (name_of line) ≡ true)
-    ∷ (Account, is_account (name_of line) ≢ true)
-    ∷ value_faults styles (part_of line)
+    (Virtual, is_virtual (account_name_of line) ≡ true)
+    ∷ (Account, is_account (account_name_of line) ≢ true)
+    ∷ value_faults styles (amount_part_of line)
 
 -- of a posting line in the entry of these lines, which is that transaction so far
 abbrev pub posting_faults : List Style → List (List ℕ) → Txn → List ℕ → List LineFault
@@ -109,16 +110,17 @@ posting_faults styles part t line = line_faults line
     (posting_part_faults styles line ++ (TooLong, PassesBody styles part line) ∷ [])
 
 -- the text is a sample of a commodity of that symbol, or the symbol
-abbrev pub Names : List ℕ → List ℕ → Type 0
-Names symbol text = ((sample : Style) × (IsSample text sample × (sample.symbol ≡ symbol))) ⊎ WritesSymbol symbol text
+abbrev pub NamesUnit : List ℕ → List ℕ → Type 0
+NamesUnit symbol text =
+    ((sample : Style) × (IsSample text sample × (sample.symbol ≡ symbol))) ⊎ WritesSymbol symbol text
 
 -- of the text after the word `commodity`: nothing, neither a sample nor a symbol, an undeclared one, a sample that
 -- does not agree
 abbrev pub directive_faults : List Style → List ℕ → List LineFault
 directive_faults styles text =
     (Directive, text ≡ [])
-    ∷ (Amount, (symbol : List ℕ) → ¬ (Names symbol text))
-    ∷ (UnknownCommodity, (symbol : List ℕ) × (Names symbol text × (place_of styles symbol ≡ None)))
+    ∷ (Amount, (symbol : List ℕ) → ¬ (NamesUnit symbol text))
+    ∷ (UnknownCommodity, (symbol : List ℕ) × (NamesUnit symbol text × (place_of styles symbol ≡ None)))
     ∷ (CommodityStyle, (unit : Commodity) → ¬ (IsSampleOf styles unit text ⊎ IsSymbolOf styles unit text))
     ∷ []
 

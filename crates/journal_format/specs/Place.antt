@@ -45,12 +45,12 @@ StandsOpen styles ls done skipped = EndsIn styles IsSkipped ls done
 StandsOpen styles ls done block = EndsIn styles IsUnclosed ls done
 
 -- how many transactions there are
-abbrev pub count_of : List Located → Open → ℕ
-count_of done nothing = length done
-count_of done (entry part t) = length done + 1
-count_of done (directive unit) = length done
-count_of done skipped = length done
-count_of done block = length done
+abbrev pub transaction_count : List Located → Open → ℕ
+transaction_count done nothing = length done
+transaction_count done (entry part t) = length done + 1
+transaction_count done (directive unit) = length done
+transaction_count done skipped = length done
+transaction_count done block = length done
 
 -- the faults of an indented line, which may be a comment line
 abbrev pub indented_faults : List Style → Open → List ℕ → Bool → List LineFault
@@ -86,5 +86,5 @@ pub record HasCause (styles : List Style) (before : List (List ℕ)) (line : Lis
   pub done : List Located
   pub place : Open
   pub stands : StandsOpen styles before done place
-  pub few : count_of done place ≤ transaction_limit
-  pub first : IsFirst (faults_at styles (count_of done place) place line) c
+  pub few : transaction_count done place ≤ transaction_limit
+  pub first : IsFirst (faults_at styles (transaction_count done place) place line) c

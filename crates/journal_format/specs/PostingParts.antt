@@ -28,32 +28,32 @@ abbrev pub from_mark : ℕ → List ℕ → List ℕ
 from_mark mark text = drop (outside (λ b. b == mark) false text) text
 
 -- the line after its indent and its status, and before its comment
-abbrev pub text_of : List ℕ → List ℕ
-text_of line = behind_status (trim_start (front_of line))
+abbrev pub posting_text : List ℕ → List ℕ
+posting_text line = behind_status (trim_start (front_of line))
 
 -- the account name
-abbrev pub name_of : List ℕ → List ℕ
-name_of line = take (name_end (text_of line)) (text_of line)
+abbrev pub account_name_of : List ℕ → List ℕ
+account_name_of line = take (name_end (posting_text line)) (posting_text line)
 
 -- it is that of a virtual posting: it begins with `(` or `[` ("Virtual postings")
 abbrev pub is_virtual : List ℕ → Bool
 is_virtual name = (slice_index name 0 == 40) || (slice_index name 0 == 91)
 
 -- the amount part after it
-abbrev pub part_of : List ℕ → List ℕ
-part_of line = trim (drop (name_end (text_of line)) (text_of line))
+abbrev pub amount_part_of : List ℕ → List ℕ
+amount_part_of line = trim (drop (name_end (posting_text line)) (posting_text line))
 
 -- the assertion in an amount part, from the first `=` on
 abbrev pub claim_in : List ℕ → List ℕ
 claim_in part = from_mark 61 part
 
 -- the price before it, from the first `@` on
-abbrev pub price_in : List ℕ → List ℕ
-price_in part = from_mark 64 (before_mark 61 part)
+abbrev pub price_text_in : List ℕ → List ℕ
+price_text_in part = from_mark 64 (before_mark 61 part)
 
 -- the amount before both
-abbrev pub amount_in : List ℕ → List ℕ
-amount_in part = before_mark 64 (before_mark 61 part)
+abbrev pub amount_text_in : List ℕ → List ℕ
+amount_text_in part = before_mark 64 (before_mark 61 part)
 
 -- the longest sign at the front of an assertion
 unfoldable pub kind_at : List ℕ → ClaimKind

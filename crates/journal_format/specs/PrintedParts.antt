@@ -40,8 +40,8 @@ mark_part None = []
 mark_part (Some mark) = whole_line (comment_line (bookid ++ mark))
 
 -- what stands below header and mark
-abbrev pub rest_part : List Style → Txn → List ℕ
-rest_part styles t = comments_part t.comments ++ postings_part styles t.postings
+abbrev pub comments_and_postings_part : List Style → Txn → List ℕ
+comments_and_postings_part styles t = comments_part t.comments ++ postings_part styles t.postings
 
 -- what stands below a header is well formed
 abbrev pub has_good_lines : List Style → Txn → Bool

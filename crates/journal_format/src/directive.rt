@@ -5,9 +5,10 @@ ghost use Rattle.std.specs.Char.{is_ascii_digit};
 ghost use Rattle.journal_format.specs.PostingParts.{outside};
 ghost use Rattle.std.specs.Str.{is_utf8};
 ghost use Rattle.money_core.specs.Sampling.{style_of};
-ghost use Rattle.money_core.specs.Cutting.{symbol_of};
+ghost use Rattle.money_core.specs.Cutting.{symbol_in_text};
 ghost use Rattle.journal_format.specs.DirectiveForm.{behind_word};
-ghost use Rattle.journal_format.specs.Directive.{shows_digit, agrees, sampled, named, commodity_of, sample_fault};
+ghost use Rattle.journal_format.specs.Directive.{shows_digit, agrees, sampled, commodity_by_symbol, commodity_of};
+ghost use Rattle.journal_format.specs.Directive.{sample_fault};
 ghost use Rattle.journal_format.specs.Directive.{is_format, format_fault};
 ghost use Rattle.journal_format.specs.PostingRead.{IsUnlessMemory};
 
@@ -79,7 +80,7 @@ fn sampled(alloc: Global, styles: &Styles, text: &str) -> Result<Unit, Cause>
 
 /// The commodity of a symbol.
 fn named(styles: &Styles, text: &str) -> Result<Unit, Cause>
-    ensures { result ≡ named styles.now (symbol_of text.now) }
+    ensures { result ≡ commodity_by_symbol styles.now (symbol_in_text text.now) }
 {
     let Some(symbol) = read_symbol(text) else {
         return Err(Cause::Amount);

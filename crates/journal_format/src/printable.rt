@@ -9,7 +9,7 @@ ghost use Rattle.journal_format.specs.CanonicalText.{body_text};
 ghost use Rattle.journal_format.specs.Printable.{is_remark_text, is_note, is_mark_or_none, is_amount, is_price_or_none};
 ghost use Rattle.journal_lines.specs.Utf8.{is_utf8_or_none};
 ghost use Rattle.journal_format.specs.Printable.{is_claim_or_none, is_value, is_posting, IsPrintable};
-ghost use Rattle.journal_format.specs.Printable.{ReadsBack};
+ghost use Rattle.journal_format.specs.Printable.{ReadsBackAlone};
 ghost use Rattle.journal_format.specs.PrintedParts.{header_part, comments_part, posting_part, postings_part};
 ghost use Rattle.journal_format.specs.PrintedParts.{has_good_lines};
 ghost use Rattle.journal_format.specs.Room.{room_behind};
@@ -223,7 +223,7 @@ fn has_good_parts(txn: &Txn, styles: &Styles) -> bool
 pub fn is_printable(txn: &Txn, styles: &Styles) -> bool
     ensures parts { IsTrue result ↔ IsPrintable styles.now txn.now }
     // That is so exactly where the canonical text reads as the list of the transaction alone.
-    ensures reads { IsTrue result ↔ ReadsBack styles.now txn.now }
+    ensures reads { IsTrue result ↔ ReadsBackAlone styles.now txn.now }
 {
     styles.are_styles();
     has_good_parts(txn, styles)

@@ -11,9 +11,9 @@ ghost use Rattle.journal_format.specs.CanonicalText.{txn_text, body_text, journa
 ghost use Rattle.journal_format.specs.Pieces.{Reads};
 ghost use Rattle.journal_format.specs.Printable.{is_value, is_price_or_none, is_claim_or_none, is_posting, IsPrintable};
 ghost use Rattle.journal_lines.specs.Utf8.{is_utf8_or_none};
-ghost use Rattle.journal_format.specs.Printable.{ReadsBack, FitsText, located_from};
+ghost use Rattle.journal_format.specs.Printable.{ReadsBackAlone, FitsText, located_from};
 ghost use Rattle.journal_format.specs.PrintedParts.{header_part, mark_part, comment_part, comments_part, posting_part};
-ghost use Rattle.journal_format.specs.PrintedParts.{postings_part, rest_part};
+ghost use Rattle.journal_format.specs.PrintedParts.{postings_part, comments_and_postings_part};
 
 use crate::posting::Posting;
 use crate::txn::Txn;
@@ -223,7 +223,7 @@ fn push_postings(
 /// Appends what stands below header and mark.
 fn push_rest(alloc: Global, txn: &Txn, styles: &Styles, out: &mut Vec<u8>) -> Result<(), Cause>
     requires { list_all (is_posting styles.now) txn.now.postings ≡ true }
-    ensures ok { OnOk result (out.new.items ≡ out.old.items ++ rest_part styles.now txn.now) }
+    ensures ok { OnOk result (out.new.items ≡ out.old.items ++ comments_and_postings_part styles.now txn.now) }
     ensures err { OnErr result (take (length out.old.items) out.new.items ≡ out.old.items) }
     ensures memory { IsOkUnless result Cause.OutOfMemory }
 {
@@ -302,7 +302,7 @@ pub fn print_txn(alloc: Global, txn: &Txn, styles: &Styles, out: &mut Vec<u8>) -
     requires { IsPrintable styles.now txn.now }
     ensures ok { OnOk result (out.new.items ≡ out.old.items ++ txn_text styles.now txn.now) }
     // What is appended reads as the transaction.
-    ensures again { ReadsBack styles.now txn.now }
+    ensures again { ReadsBackAlone styles.now txn.now }
     ensures err { OnErr result (out.new.items ≡ out.old.items) }
     ensures memory { IsOkUnless result Cause.OutOfMemory }
 {

@@ -3,7 +3,8 @@
 ghost use Rattle.std.specs.Prelude.{◌≡◌, ◌≤◌, true, not, IfOk};
 ghost use Rattle.journal_lines.specs.LineKind.{is_block_end, kind_of};
 ghost use Rattle.journal_format.specs.Line.{is_line};
-ghost use Rattle.journal_format.specs.Machine.{size_of, in_block, block_line, goes_on, opens, by_kind, moved, step};
+ghost use Rattle.journal_format.specs.Machine.{size_of, in_block, block_line, goes_on, opens, by_kind, moved_by_form};
+ghost use Rattle.journal_format.specs.Machine.{line_step};
 ghost use Rattle.journal_format.specs.PostingRead.{IsUnlessMemory, first_of};
 
 use crate::body_size::MAX_BODY;
@@ -115,7 +116,7 @@ fn moved(
     requires kind { kind ≡ kind_of line.now }
     requires size { size ≡ size_of styles.now state.context }
     requires small { size ≤ MAX_BODY }
-    ensures state { IsUnlessMemory (first_of result) (moved styles.now state number line.now) }
+    ensures state { IsUnlessMemory (first_of result) (moved_by_form styles.now state number line.now) }
     ensures size { IfOk result (λ r. r.1 ≡ size_of styles.now r.0.context) }
 {
     if in_block(&state.context) {
@@ -137,7 +138,7 @@ fn moved(
 }
 
 /// What was read with one more line, of that number, and how long the body is that stands open then.
-#[tactic(auto, unfolding(crate::specs::Machine::step))]
+#[tactic(auto, unfolding(crate::specs::Machine::line_step))]
 pub(crate) fn read_line(
     alloc: Global,
     styles: &Styles,
@@ -148,7 +149,7 @@ pub(crate) fn read_line(
 ) -> Result<(State, usize), Cause>
     requires size { size ≡ size_of styles.now state.context }
     requires small { size ≤ MAX_BODY }
-    ensures state { IsUnlessMemory (first_of result) (step styles.now state number line.now) }
+    ensures state { IsUnlessMemory (first_of result) (line_step styles.now state number line.now) }
     ensures size { IfOk result (λ r. r.1 ≡ size_of styles.now r.0.context) }
     ensures small { IfOk result (λ r. r.1 ≤ MAX_BODY) }
 {

@@ -9,7 +9,7 @@ use Rattle.std.proofs.lemmas.Grind.{common_steps}
 use Rattle.journal_lines.specs.Blank.{is_blank}
 use Rattle.journal_lines.specs.Printed.{is_clean}
 use Rattle.journal_lines.proofs.CutLemmas.{all_weaker}
-use Rattle.journal_lines.specs.AccountName.{transit, is_name_byte, parts, is_part, is_gap, has_gap, bars_start}
+use Rattle.journal_lines.specs.AccountName.{transit, is_account_name_byte, parts, is_part, is_gap, has_gap, bars_start}
 use Rattle.journal_lines.specs.AccountName.{is_account, ends_name, name_end, is_unbroken, IsWholeName}
 use Rattle.std.specs.List.{list_all}
 use lib.Pointwise.{pointwise}
@@ -75,29 +75,32 @@ name_whole (x ∷ y ∷ name) rest h e =
 pub account_unbroken : (name : List ℕ) → is_account name ≡ true → is_unbroken name ≡ true
 unfolding is_account
 account_unbroken name h =
-    let a = and_parts (nat_le (length name) 200 && list_all is_part (parts name) && list_all is_name_byte name
+    let a = and_parts (nat_le (length name) 200 && list_all is_part (parts name) && list_all is_account_name_byte name
     && not (has_gap name)) _ h in
-    let b = and_parts (nat_le (length name) 200 && list_all is_part (parts name) && list_all is_name_byte name) _ a.0 in
+    let b = and_parts (nat_le (length name) 200 && list_all is_part (parts name) && list_all is_account_name_byte name)
+    _ a.0 in
     let c = and_parts (nat_le (length name) 200 && list_all is_part (parts name)) _ b.0 in
     unbroken name c.1 (not-true _ b.1)
   where
-    no_tab : (b : ℕ) → is_name_byte b ≡ true → (b == 9) ≡ false
+    no_tab : (b : ℕ) → is_account_name_byte b ≡ true → (b == 9) ≡ false
     no_tab b k = grind (arith, common_steps)
 
-    ends_none : (b : ℕ) (rest : List ℕ) → is_name_byte b ≡ true → list_all is_name_byte rest ≡ true
+    ends_none : (b : ℕ) (rest : List ℕ) → is_account_name_byte b ≡ true → list_all is_account_name_byte rest ≡ true
         → is_gap b rest ≡ false → ends_name b rest ≡ false
     ends_none b [] k r g = rw (no_tab b k, g) refl
     ends_none b (next ∷ rest) k r g = let first =
-        and_parts (is_name_byte next) _ r in rw (no_tab b k, no_tab next first.0) (by_space (b == 32) (next == 32) g)
+        and_parts (is_account_name_byte next) _ r in rw (no_tab b k, no_tab next first.0)
+        (by_space (b == 32) (next == 32) g)
       where
         by_space : (x y : Bool) → (x && y) ≡ false → (x && (y || false)) ≡ false
         by_space x true e = e
         by_space x false e = e
 
-    unbroken : (name : List ℕ) → list_all is_name_byte name ≡ true → has_gap name ≡ false → is_unbroken name ≡ true
+    unbroken : (name : List ℕ) → list_all is_account_name_byte name ≡ true → has_gap name ≡ false
+        → is_unbroken name ≡ true
     unbroken [] k g = refl
     unbroken (b ∷ rest) k g =
-        let bytes = and_parts (is_name_byte b) _ k in
+        let bytes = and_parts (is_account_name_byte b) _ k in
         let gaps = or_parts (is_gap b rest) _ g in
         and_from _ _ (not_from_false _ (ends_none b rest bytes.0 bytes.1 gaps.0)) (unbroken rest bytes.1 gaps.1)
 
@@ -105,16 +108,17 @@ account_unbroken name h =
 pub account_whole : (name : List ℕ) → is_account name ≡ true → IsWholeName name
 unfolding is_account
 account_whole name h =
-    let a = and_parts (nat_le (length name) 200 && list_all is_part (parts name) && list_all is_name_byte name
+    let a = and_parts (nat_le (length name) 200 && list_all is_part (parts name) && list_all is_account_name_byte name
     && not (has_gap name)) _ h in
-    let b = and_parts (nat_le (length name) 200 && list_all is_part (parts name) && list_all is_name_byte name) _ a.0 in
+    let b = and_parts (nat_le (length name) 200 && list_all is_part (parts name) && list_all is_account_name_byte name)
+    _ a.0 in
     let c = and_parts (nat_le (length name) 200 && list_all is_part (parts name)) _ b.0 in
     let d = and_parts (nat_le (length name) 200) _ c.0 in
     record {
       some = some_byte name d.1;
       short = leb-true (length name) 200 d.0;
       bytes = c.1;
-      clean = all_weaker is_name_byte is_clean name clean_byte c.1;
+      clean = all_weaker is_account_name_byte is_clean name clean_byte c.1;
       first = not-true _ a.1;
       solid = solid_first name c.1 (not-true _ a.1);
       unbroken = account_unbroken name h;
@@ -124,20 +128,20 @@ account_whole name h =
     some_byte [] k = absurd cc
     some_byte (x ∷ xs) k = omega arith
 
-    clean_byte : (b : ℕ) → is_name_byte b ≡ true → is_clean b ≡ true
+    clean_byte : (b : ℕ) → is_account_name_byte b ≡ true → is_clean b ≡ true
     clean_byte b k = grind (arith, common_steps)
 
-    solid_byte : (b : ℕ) → is_name_byte b ≡ true → bars_start b ≡ false → is_blank b ≡ false
+    solid_byte : (b : ℕ) → is_account_name_byte b ≡ true → bars_start b ≡ false → is_blank b ≡ false
     solid_byte b k s = grind (arith, common_steps)
 
-    solid_first : (xs : List ℕ) → list_all is_name_byte xs ≡ true → bars_start (slice_index xs 0) ≡ false
+    solid_first : (xs : List ℕ) → list_all is_account_name_byte xs ≡ true → bars_start (slice_index xs 0) ≡ false
         → is_blank (slice_index xs 0) ≡ false
     solid_first [] k s = refl
-    solid_first (x ∷ xs) k s = solid_byte x (and_parts (is_name_byte x) _ k).0 s
+    solid_first (x ∷ xs) k s = solid_byte x (and_parts (is_account_name_byte x) _ k).0 s
 
 -- the same of each test alone
 pub whole_by_tests : (name : List ℕ) → nat_le (length name) 200 ≡ true → list_all is_part (parts name) ≡ true
-    → list_all is_name_byte name ≡ true → has_gap name ≡ false → bars_start (slice_index name 0) ≡ false
+    → list_all is_account_name_byte name ≡ true → has_gap name ≡ false → bars_start (slice_index name 0) ≡ false
     → IsWholeName name
 unfolding is_account
 whole_by_tests name a b c d e = account_whole name (rw (a, b, c, d, e) refl)

@@ -23,7 +23,8 @@ use Rattle.jiff_core.proofs.DateLemmas.{days_from_civil-next_year}
 use Rattle.money_core.specs.declared.day.Day.{Day}
 use Rattle.money_core.proofs.RoundTrip.{digit_is_digit, digit_value_is}
 use Rattle.money_core.proofs.TestLemmas.{int_le-true, le_from_int_le}
-use Rattle.journal_lines.specs.Date.{IsDay, IsDate, is_separator, is_short, number_of, IsDayNumber, last_begun, year_of}
+use Rattle.journal_lines.specs.Date.{IsDay, IsDate, is_separator, is_month_or_day, number_of, IsDayNumber, last_begun}
+use Rattle.journal_lines.specs.Date.{year_of}
 use Rattle.journal_lines.specs.Date.{month_of, day_of_month, two_digits, four_digits, printed_date, IsDateText}
 use Rattle.journal_lines.specs.Date.{is_in_calendar}
 use Rattle.journal_lines.specs.DateReading.{HasDateParts, year_part, behind_year, month_part, day_part, separator}
@@ -203,9 +204,9 @@ date_test text h = and_from _ _
 pub date_from_test : (text : List ℕ) → is_date text ≡ true → HasDateParts text
 date_from_test text h =
     let a = and_parts (nat_lt 4 (length text) && list_all is_ascii_digit (year_part text)
-    && is_separator (separator text) && is_short (month_part text) && is_short (day_part text)) _ h in
+    && is_separator (separator text) && is_month_or_day (month_part text) && is_month_or_day (day_part text)) _ h in
     let b = and_parts (nat_lt 4 (length text) && list_all is_ascii_digit (year_part text)
-    && is_separator (separator text) && is_short (month_part text)) _ a.0 in
+    && is_separator (separator text) && is_month_or_day (month_part text)) _ a.0 in
     let e = and_parts (nat_lt 4 (length text) && list_all is_ascii_digit (year_part text)
     && is_separator (separator text)) _ b.0 in
     let f = and_parts (nat_lt 4 (length text) && list_all is_ascii_digit (year_part text)) _ e.0 in
@@ -564,8 +565,8 @@ parts_of_date text day h =
         long = omega (arith, h.four, length-append h.year (h.separator ∷ (h.month ++ (h.separator ∷ h.place))));
         year = ap (list_all is_ascii_digit) f.year_is ∙ h.year_digits;
         separated = ap is_separator f.mark ∙ h.separated;
-        month = ap is_short f.month_is ∙ h.month_digits;
-        day = ap is_short f.place_is ∙ h.place_digits;
+        month = ap is_month_or_day f.month_is ∙ h.month_digits;
+        day = ap is_month_or_day f.place_is ∙ h.place_digits;
         exists =
             same_day _ _ _ _ _ _ (ap number_of f.year_is) (ap number_of f.month_is) (ap number_of f.place_is) h.exists;
       },
@@ -600,7 +601,7 @@ date_from_parts text h = record {
     some : 0 < length (day_part text)
     some = short_some (day_part text) h.day
       where
-        short_some : (xs : List ℕ) → is_short xs ≡ true → 0 < length xs
+        short_some : (xs : List ℕ) → is_month_or_day xs ≡ true → 0 < length xs
         short_some [] k = absurd cc
         short_some (x ∷ xs) k = omega arith
 

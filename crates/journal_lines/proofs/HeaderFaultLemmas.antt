@@ -9,7 +9,7 @@ use Rattle.std.specs.List.{list_all, position_or_len}
 use Rattle.std.proofs.lemmas.List.{drop_at}
 use Rattle.std.proofs.Math.Seq.{take-append_seam}
 use Rattle.money_core.specs.declared.day.Day.{Day}
-use Rattle.money_core.specs.Cause.{number_of}
+use Rattle.money_core.specs.Cause.{cause_number}
 use Rattle.money_core.specs.declared.cause.Cause.{Cause}
 use Rattle.money_core.specs.declared.cause.Cause.TheVariants as cause
 use Rattle.journal_lines.specs.declared.header.Status.{Status}
@@ -22,7 +22,7 @@ use Rattle.journal_lines.specs.HeaderReading.{Coded, closed_code, code_at, Heade
 use Rattle.journal_lines.specs.HeaderReading.{is_coded_long, is_cut_long, judged_header, dated_header, closed_header}
 use Rattle.journal_lines.specs.HeaderReading.{header_of}
 use Rattle.journal_lines.specs.HeaderView.{parts_of, read_parts}
-use Rattle.journal_lines.specs.HeaderForm.{status_text, code_text, is_closed, Reads}
+use Rattle.journal_lines.specs.HeaderForm.{status_text, code_text, is_closed, ReadsHeader}
 use Rattle.journal_lines.specs.HeaderFaults.{IsCut, IsCoded, IsLongText, HasLongPart, HasNoDate, HasOpenCode}
 use Rattle.journal_lines.proofs.CutLemmas.{no_mark, trim_start_behind, trim_start_same, trim_inside, all_weaker}
 use Rattle.journal_lines.proofs.CutLemmas.{all_joined, all_take, first_trimmed, trim_end_trimmed, before_none}
@@ -459,7 +459,7 @@ one_cause line (Err c) e = at (fault_of line c (sym e))
     at (inr (inr k)) = inr (inr k.0)
 
 -- what is promised of an answer makes it that of the function
-pub header_answer : (line : List ℕ) (r : Result read.Header Cause) → IfOk r (λ h. Reads line (parts_of h))
+pub header_answer : (line : List ℕ) (r : Result read.Header Cause) → IfOk r (λ h. ReadsHeader line (parts_of h))
     → ((r ≡ Err cause.TooLong) ↔ HasLongPart line) → ((r ≡ Err cause.Date) ↔ HasNoDate line)
     → ((r ≡ Err cause.Header) ↔ HasOpenCode line)
     → IfErr r (λ c. (c ≡ cause.TooLong) ⊎ ((c ≡ cause.Date) ⊎ (c ≡ cause.Header))) → read_parts r ≡ header_of line
@@ -473,12 +473,12 @@ header_answer line (Err c) found long undated unclosed (inr (inr is)) =
 
 -- a header's fault is a limit exactly where a part has too many bytes, for the order of faults above
 pub header_fault : (line : List ℕ) (c : Cause) → header_of line ≡ Err c
-    → (number_of c == 2) ≡ is_cut_long (cut_header line)
+    → (cause_number c == 2) ≡ is_cut_long (cut_header line)
 header_fault line c e = at (fault_of line c e)
   where
     at : ((c ≡ cause.TooLong) × HasLongPart line)
         ⊎ (((c ≡ cause.Date) × HasNoDate line) ⊎ ((c ≡ cause.Header) × HasOpenCode line))
-        → (number_of c == 2) ≡ is_cut_long (cut_header line)
-    at (inl k) = ap (λ (x : Cause). number_of x == 2) k.0 ∙ sym (long_alone line k.1)
-    at (inr (inl k)) = ap (λ (x : Cause). number_of x == 2) k.0 ∙ sym (short_is line k.1.short)
-    at (inr (inr k)) = ap (λ (x : Cause). number_of x == 2) k.0 ∙ sym (short_is line k.1.short)
+        → (cause_number c == 2) ≡ is_cut_long (cut_header line)
+    at (inl k) = ap (λ (x : Cause). cause_number x == 2) k.0 ∙ sym (long_alone line k.1)
+    at (inr (inl k)) = ap (λ (x : Cause). cause_number x == 2) k.0 ∙ sym (short_is line k.1.short)
+    at (inr (inr k)) = ap (λ (x : Cause). cause_number x == 2) k.0 ∙ sym (short_is line k.1.short)

@@ -16,12 +16,12 @@ use Rattle.journal_lines.specs.declared.header.Status.{Status}
 use Rattle.journal_lines.specs.declared.header.Status.TheVariants.{Pending, Cleared}
 use Rattle.journal_lines.specs.Blank.{is_blank, first_word, first_solid, trim_start, trim_end, is_trimmed}
 use Rattle.journal_lines.specs.Comment.{has_no, front_of, comment_of}
-use Rattle.journal_lines.specs.Date.{is_separator, is_short}
+use Rattle.journal_lines.specs.Date.{is_separator, is_month_or_day}
 use Rattle.journal_lines.specs.DateReading.{behind_year, separator, month_part, day_part, HasDateParts, date_of}
 use Rattle.journal_lines.specs.Header.{status_at, behind_status, HeaderParts, length_of}
 use Rattle.journal_lines.specs.HeaderReading.{Coded, closed_code, code_at, behind_date, cut_header, is_coded_long}
 use Rattle.journal_lines.specs.HeaderReading.{judged_header, dated_header, closed_header, header_of}
-use Rattle.journal_lines.specs.HeaderForm.{status_text, code_text, is_closed, starts_so, IsRemark, Reads}
+use Rattle.journal_lines.specs.HeaderForm.{status_text, code_text, is_closed, starts_so, IsRemark, ReadsHeader}
 use Rattle.journal_lines.proofs.CutLemmas.{before_mark, at_mark, trim_start_behind, trim_start_same, trim_start_blanks}
 use Rattle.journal_lines.proofs.CutLemmas.{trim_end_same, trim_inside, all_trim_end, front_whole, no_comment}
 use Rattle.journal_lines.proofs.CutLemmas.{comment_behind, all_weaker, all_joined, trim_trimmed, trim_start_first}
@@ -52,7 +52,7 @@ all_around p q (x ∷ xs) f h k = elim (cases_Bool (p x)) [
 digit_byte : (b : ℕ) → is_ascii_digit b ≡ true → is_date_byte b ≡ true
 digit_byte b h = rw h refl
 
-short_digits : (part : List ℕ) → is_short part ≡ true → list_all is_date_byte part ≡ true
+short_digits : (part : List ℕ) → is_month_or_day part ≡ true → list_all is_date_byte part ≡ true
 short_digits part h = let parts =
     and_parts ((length part == 1) || (length part == 2)) _ h in all_weaker is_ascii_digit is_date_byte part digit_byte
     parts.1
@@ -228,7 +228,7 @@ begins_free None None b h e =
 begins_free (Some status) None b h e = (not-true _ h, λ none. absurd cc)
 
 -- how a line in the form of a header is cut
-cut_is : (line : List ℕ) (parts : HeaderParts) → (r : Reads line parts)
+cut_is : (line : List ℕ) (parts : HeaderParts) → (r : ReadsHeader line parts)
     → cut_header line ≡ record {
       date = r.date;
       status = parts.status;
@@ -295,7 +295,7 @@ short_code : (code : Option (List ℕ)) → length_of code ≤ 100 → nat_lt 10
 short_code code h = le-ltb 100 (length_of code) h
 
 -- a line in the form of a header reads as its parts
-pub form_reads : (line : List ℕ) (parts : HeaderParts) → Reads line parts → header_of line ≡ Ok parts
+pub form_reads : (line : List ℕ) (parts : HeaderParts) → ReadsHeader line parts → header_of line ≡ Ok parts
 unfolding judged_header
 form_reads line parts r =
     let gaps = in_row r.gap (r.status_gap ++ (r.code_gap ++ r.end_gap)) r.blanks in
@@ -521,7 +521,7 @@ nothing_apart front none =
 form_of_parts : (line : List ℕ) (day : Day) (coded : Coded) → date_of (first_word (front_of line)) ≡ Some day
     → code_at (behind_status (behind_date (front_of line))) ≡ Some coded
     → is_coded_long (Some coded) ≡ false → nat_lt 900 (length_of (comment_of line)) ≡ false
-    → Reads line (record {
+    → ReadsHeader line (record {
       day = day;
       status = status_at (behind_date (front_of line));
       code = coded.code;
@@ -586,7 +586,7 @@ form_of_parts line day coded date code long short =
         at (Some code) e = and_from _ _ (k.open_end code e) (k.within (λ b. not (b == 59)) code e none)
 
 -- the parts of a line that reads are written in it
-pub reads_form : (line : List ℕ) (parts : HeaderParts) → header_of line ≡ Ok parts → Reads line parts
+pub reads_form : (line : List ℕ) (parts : HeaderParts) → header_of line ≡ Ok parts → ReadsHeader line parts
 unfolding judged_header cut_header
 reads_form line parts e =
     let dated = behind_date (front_of line) in
@@ -598,7 +598,7 @@ reads_form line parts e =
     at_coded : (day : Day) → date_of (first_word (front_of line)) ≡ Some day → (o : Option Coded)
         → code_at (behind_status (behind_date (front_of line))) ≡ o → is_coded_long o ≡ false
         → nat_lt 900 (length_of (comment_of line)) ≡ false
-        → closed_header (cut_header line) day o ≡ Ok parts → Reads line parts
+        → closed_header (cut_header line) day o ≡ Ok parts → ReadsHeader line parts
     at_coded day date None q long short r = absurd cc
     at_coded day date (Some coded) q long short r =
         let dated = behind_date (front_of line) in
@@ -609,12 +609,12 @@ reads_form line parts e =
           description = trim_end coded.rest;
           comment = comment_of line;
         } ≡ parts = cc in
-        subst (λ (p : HeaderParts). Reads line p) same (form_of_parts line day coded date q long short)
+        subst (λ (p : HeaderParts). ReadsHeader line p) same (form_of_parts line day coded date q long short)
 
     at_date : (o : Option Day) → date_of (first_word (front_of line)) ≡ o → (c : Option Coded)
         → code_at (behind_status (behind_date (front_of line))) ≡ c → is_coded_long c ≡ false
         → nat_lt 900 (length_of (comment_of line)) ≡ false
-        → dated_header (cut_header line) o ≡ Ok parts → Reads line parts
+        → dated_header (cut_header line) o ≡ Ok parts → ReadsHeader line parts
     at_date None q c r long short f = absurd cc
     at_date (Some day) q c r long short f =
         at_coded day q c r long short

@@ -4,7 +4,7 @@ use Rattle.money_core.specs.declared.cause.Cause.{Cause}
 use Rattle.journal_lines.specs.declared.header.Header as read
 use Rattle.journal_lines.specs.Header.{HeaderParts}
 use Rattle.journal_lines.specs.HeaderReading.{header_of}
-use Rattle.journal_lines.specs.HeaderForm.{Reads}
+use Rattle.journal_lines.specs.HeaderForm.{ReadsHeader}
 use Rattle.journal_lines.specs.HeaderView.{parts_of, read_parts}
 use Rattle.std.specs.Str.{is_utf8}
 use Rattle.std.specs.List.{list_all}
@@ -15,12 +15,12 @@ use Rattle.journal_lines.proofs.Utf8Lemmas.{header_utf8}
 use Rattle.journal_lines.proofs.HeaderFormLemmas.{form_reads, reads_form}
 
 pub found_from : (line : List ℕ) (r : Result read.Header Cause) → read_parts r ≡ header_of line
-    → IfOk r (λ header. Reads line (parts_of header))
+    → IfOk r (λ header. ReadsHeader line (parts_of header))
 found_from line (Ok h) e = reads_form line (parts_of h) (sym e)
 found_from line (Err c) e = tt
 
 pub only_from : (line : List ℕ) (r : Result read.Header Cause) → read_parts r ≡ header_of line → (parts : HeaderParts)
-    → Reads line parts → read_parts r ≡ Ok parts
+    → ReadsHeader line parts → read_parts r ≡ Ok parts
 only_from line r e parts form = e ∙ form_reads line parts form
 
 pub utf8_from : (line : List ℕ) (r : Result read.Header Cause) → read_parts r ≡ header_of line → is_utf8 line ≡ true

@@ -6,8 +6,8 @@ use Rattle.journal_lines.specs.Blank.{is_blank}
 use Rattle.journal_lines.specs.Printed.{is_clean}
 
 -- a byte that a name may have: no `;`, and no ASCII control character, tabs among them
-abbrev pub is_name_byte : ℕ → Bool
-is_name_byte b = not (b == 59) && nat_le 32 b && not (b == 127)
+abbrev pub is_account_name_byte : ℕ → Bool
+is_account_name_byte b = not (b == 59) && nat_le 32 b && not (b == 127)
 
 -- the parts of a name, between its colons
 abbrev pub parts : List ℕ → List (List ℕ)
@@ -39,15 +39,15 @@ name_limit = 200
 pub record IsAccount (name : List ℕ) : Type 0 where
   pub short : length name ≤ name_limit
   pub parts : list_all is_part (parts name) ≡ true
-  pub bytes : list_all is_name_byte name ≡ true
+  pub bytes : list_all is_account_name_byte name ≡ true
   pub gaps : has_gap name ≡ false
   pub start : bars_start (slice_index name 0) ≡ false
 
 -- the same as a test
 unfoldable pub is_account : List ℕ → Bool
 is_account name =
-    nat_le (length name) name_limit && list_all is_part (parts name) && list_all is_name_byte name && not (has_gap name)
-    && not (bars_start (slice_index name 0))
+    nat_le (length name) name_limit && list_all is_part (parts name) && list_all is_account_name_byte name
+    && not (has_gap name) && not (bars_start (slice_index name 0))
 
 -- a name ends before a tab, before a space that a blank follows, and before a single space at the end
 abbrev pub ends_name : ℕ → List ℕ → Bool
@@ -69,7 +69,7 @@ is_unbroken (b ∷ rest) = not (ends_name b rest) && is_unbroken rest
 pub record IsWholeName (name : List ℕ) : Type 0 where
   pub some : 0 < length name
   pub short : length name ≤ name_limit
-  pub bytes : list_all is_name_byte name ≡ true
+  pub bytes : list_all is_account_name_byte name ≡ true
   pub clean : list_all is_clean name ≡ true
   pub first : bars_start (slice_index name 0) ≡ false
   pub solid : is_blank (slice_index name 0) ≡ false

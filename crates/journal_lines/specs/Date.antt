@@ -18,8 +18,8 @@ abbrev pub is_separator : ℕ → Bool
 is_separator b = (b == 45) || (b == 47) || (b == 46)
 
 -- a month or a day: one digit or two
-abbrev pub is_short : List ℕ → Bool
-is_short part = ((length part == 1) || (length part == 2)) && list_all is_ascii_digit part
+abbrev pub is_month_or_day : List ℕ → Bool
+is_month_or_day part = ((length part == 1) || (length part == 2)) && list_all is_ascii_digit part
 
 -- the number that digits write
 abbrev pub number_of : List ℕ → ℕ
@@ -36,8 +36,8 @@ pub record IsDate (text : List ℕ) (day : Day) : Type 0 where
   pub separated : is_separator separator ≡ true
   pub four : length year ≡ 4
   pub year_digits : list_all is_ascii_digit year ≡ true
-  pub month_digits : is_short month ≡ true
-  pub place_digits : is_short place ≡ true
+  pub month_digits : is_month_or_day month ≡ true
+  pub place_digits : is_month_or_day place ≡ true
   pub exists : IsDay (number_of year) (number_of month) (number_of place)
   pub named : day ≡ record { 0 = days_from_civil (pos (number_of year)) (number_of month) (number_of place) }
 

@@ -6,7 +6,7 @@ use Rattle.std.specs.Char.{is_ascii_digit}
 use Rattle.std.specs.List.{list_all, before_first, after_first}
 use Rattle.jiff_core.specs.Calendar.{days_in_month, days_from_civil}
 use Rattle.money_core.specs.declared.day.Day.{Day}
-use Rattle.journal_lines.specs.Date.{IsDay, is_separator, is_short, number_of}
+use Rattle.journal_lines.specs.Date.{IsDay, is_separator, is_month_or_day, number_of}
 
 -- the four bytes of the year
 abbrev pub year_part : List ℕ → List ℕ
@@ -33,8 +33,8 @@ pub record HasDateParts (text : List ℕ) : Type 0 where
   pub long : 4 < length text
   pub year : list_all is_ascii_digit (year_part text) ≡ true
   pub separated : is_separator (separator text) ≡ true
-  pub month : is_short (month_part text) ≡ true
-  pub day : is_short (day_part text) ≡ true
+  pub month : is_month_or_day (month_part text) ≡ true
+  pub day : is_month_or_day (day_part text) ≡ true
   pub exists : IsDay (number_of (year_part text)) (number_of (month_part text)) (number_of (day_part text))
 
 -- the day that a date names
@@ -53,7 +53,7 @@ is_day y m d =
 abbrev pub is_date : List ℕ → Bool
 is_date text =
     nat_lt 4 (length text) && list_all is_ascii_digit (year_part text) && is_separator (separator text)
-    && is_short (month_part text) && is_short (day_part text)
+    && is_month_or_day (month_part text) && is_month_or_day (day_part text)
     && is_day (number_of (year_part text)) (number_of (month_part text)) (number_of (day_part text))
 
 -- the day that a text names, if it is a date

@@ -9,8 +9,8 @@ abbrev pub coded_view : coded.Coded → Coded
 coded_view c = record { code = option_map (λ t. t.now) c.code; rest = c.rest.now }
 
 -- the parts that were cut
-abbrev pub cut_view : cut.HeaderCut → HeaderCut
-cut_view c = record {
+abbrev pub header_cut_view : cut.HeaderCut → HeaderCut
+header_cut_view c = record {
   date = c.date.now;
   status = c.status;
   coded = option_map coded_view c.coded;

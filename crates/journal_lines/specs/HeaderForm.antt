@@ -47,7 +47,7 @@ IsRemark (Some text) rest = WritesComment text rest
 
 -- the line is a header with these parts: a date, then after blanks a status, a code and a description, each optional,
 -- then the comment
-pub record Reads (line : List ℕ) (parts : HeaderParts) : Type 0 where
+pub record ReadsHeader (line : List ℕ) (parts : HeaderParts) : Type 0 where
   pub date : List ℕ
   pub gap : List ℕ
   pub status_gap : List ℕ

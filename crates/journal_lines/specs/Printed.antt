@@ -13,7 +13,7 @@ use Rattle.journal_lines.specs.declared.header.Status.TheVariants.{Cleared, Pend
 use Rattle.journal_lines.specs.Blank.{is_trimmed}
 use Rattle.journal_lines.specs.Comment.{has_no, comment_of}
 use Rattle.journal_lines.specs.Header.{code_limit, description_limit, comment_limit, HeaderParts}
-use Rattle.journal_lines.specs.HeaderForm.{starts_so, Reads}
+use Rattle.journal_lines.specs.HeaderForm.{starts_so, ReadsHeader}
 use Rattle.journal_lines.specs.Date.{printed_date, IsDayNumber}
 
 -- a byte that a line may hold: no ASCII control character but the tab
@@ -84,7 +84,13 @@ pub record HeaderOk (day : Day) (status : Option Status) (code : Option (List �
 pub record IsHeaderText (day : Day) (status : Option Status) (code : Option (List ℕ))
     (description line : List ℕ) : Type 0 where
   pub kind : kind_of line ≡ Header
-  pub reads : Reads line (record { day = day; status = status; code = code; description = description; comment = None })
+  pub reads : ReadsHeader line (record {
+    day = day;
+    status = status;
+    code = code;
+    description = description;
+    comment = None;
+  })
   pub clean : list_all is_clean line ≡ true
   pub short : length line ≤ line_limit
 

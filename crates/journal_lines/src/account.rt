@@ -3,7 +3,8 @@
 ghost use Rattle.std.specs.Prelude.{◌≡◌, ◌↔◌, ◌==◌, IsTrue, true, not, slice_index, ◌+◌, ◌≤◌, length, drop};
 ghost use Rattle.std.specs.List.{list_all};
 ghost use Rattle.std.specs.Str.{is_utf8, IsCharBoundary};
-ghost use Rattle.journal_lines.specs.AccountName.{is_name_byte, is_part, parts, is_gap, has_gap, bars_start, IsAccount};
+ghost use Rattle.journal_lines.specs.AccountName.{is_account_name_byte, is_part, parts, is_gap, has_gap, bars_start};
+ghost use Rattle.journal_lines.specs.AccountName.{IsAccount};
 ghost use Rattle.journal_lines.specs.AccountName.{is_account, ends_name, name_end, IsReserved, IsWholeName};
 
 use crate::blank::is_blank;
@@ -44,13 +45,13 @@ fn is_part(part: &[u8]) -> bool
 }
 
 fn all_name_bytes(name: &[u8]) -> bool
-    ensures { result ≡ list_all is_name_byte name.now }
+    ensures { result ≡ list_all is_account_name_byte name.now }
 {
     name.iter().all(|b| is_name_byte(*b))
 }
 
 fn is_name_byte(byte: u8) -> bool
-    ensures { result ≡ is_name_byte byte }
+    ensures { result ≡ is_account_name_byte byte }
 {
     byte != b';' && byte >= 32 && byte != 127
 }

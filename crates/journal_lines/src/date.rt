@@ -8,7 +8,8 @@ ghost use Rattle.std.specs.List.{list_all};
 ghost use Rattle.jiff_core.specs.Calendar.{IsCivilDate, days_from_civil};
 ghost use Rattle.jiff_core.specs.Date.{epoch_day};
 ghost use Rattle.money_core.specs.declared.day.Day.{Day};
-ghost use Rattle.journal_lines.specs.Date.{IsDay, IsDate, is_separator, is_short, number_of, IsDayNumber, IsDateText};
+ghost use Rattle.journal_lines.specs.Date.{IsDay, IsDate, is_separator, is_month_or_day, number_of, IsDayNumber};
+ghost use Rattle.journal_lines.specs.Date.{IsDateText};
 ghost use Rattle.journal_lines.specs.Date.{printed_date, two_digits, four_digits};
 ghost use Rattle.journal_lines.specs.DateReading.{HasDateParts, day_of, date_of};
 
@@ -78,7 +79,7 @@ fn is_separator(byte: u8) -> bool
 
 /// Whether the text is one digit or two.
 fn is_short(text: &[u8]) -> bool
-    ensures { result ≡ is_short text.now }
+    ensures { result ≡ is_month_or_day text.now }
 {
     (text.len() == 1 || text.len() == 2) && all_digits(text)
 }
@@ -99,7 +100,7 @@ fn number_of(text: &[u8]) -> u16
 
 /// The number of a month or a day, one digit or two.
 fn short_number(text: &[u8]) -> Option<u8>
-    ensures value { SomeIff result (is_short text.now ≡ true) (number_of text.now) }
+    ensures value { SomeIff result (is_month_or_day text.now ≡ true) (number_of text.now) }
     ensures bound { IfSome result (λ n. n ≤ 99) }
 {
     if is_short(text) {

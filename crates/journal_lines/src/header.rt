@@ -8,12 +8,12 @@ ghost use Rattle.std.specs.Str.{is_utf8};
 ghost use Rattle.journal_lines.specs.Header.{status_at, behind_status, length_of, HeaderParts};
 ghost use Rattle.journal_lines.specs.HeaderReading.{closed_code, code_at, behind_date, cut_header, is_coded_long};
 ghost use Rattle.journal_lines.specs.HeaderReading.{is_cut_long, judged_header};
-ghost use Rattle.journal_lines.specs.HeaderForm.{Reads};
+ghost use Rattle.journal_lines.specs.HeaderForm.{ReadsHeader};
 ghost use Rattle.journal_lines.specs.HeaderFaults.{HasLongPart, HasNoDate, HasOpenCode};
 ghost use Rattle.journal_lines.specs.Printed.{is_clean, PrintsBack};
 ghost use Rattle.journal_lines.specs.Utf8.{IsUtf8Header};
 ghost use Rattle.journal_lines.specs.HeaderView.{parts_of, read_parts};
-ghost use Rattle.journal_lines.specs.HeaderCutView.{coded_view, cut_view};
+ghost use Rattle.journal_lines.specs.HeaderCutView.{coded_view, header_cut_view};
 
 use crate::blank::{find_blank, first_word, trim_end, trim_start};
 use crate::comment::{comment_of, front_of};
@@ -68,8 +68,8 @@ struct Coded<'a> {
 /// bytes, 3 where the text up to the first blank or `;` is no date, 4 where the code is not closed.
 pub fn read_header(line: &[u8]) -> Result<Header<'_>, Cause>
     // What is read is written in the line, and a line in the form of a header is read.
-    ensures found { IfOk result (λ header. Reads line.entry.now (parts_of header)) }
-    ensures only { (parts : HeaderParts) → Reads line.entry.now parts → read_parts result ≡ Ok parts }
+    ensures found { IfOk result (λ header. ReadsHeader line.entry.now (parts_of header)) }
+    ensures only { (parts : HeaderParts) → ReadsHeader line.entry.now parts → read_parts result ≡ Ok parts }
 
     // A fault is that of the line's text from left to right.
     ensures long { (result ≡ Err Cause.TooLong) ↔ HasLongPart line.entry.now }
@@ -88,7 +88,7 @@ pub fn read_header(line: &[u8]) -> Result<Header<'_>, Cause>
 /// The parts of a header that was cut, or its first fault.
 #[tactic(auto, unfolding(crate::specs::HeaderReading::judged_header))]
 fn judged_header(cut: HeaderCut<'_>) -> Result<Header<'_>, Cause>
-    ensures { read_parts result ≡ judged_header (cut_view cut.entry) }
+    ensures { read_parts result ≡ judged_header (header_cut_view cut.entry) }
 {
     if is_cut_long(&cut) {
         return Err(Cause::TooLong);
@@ -111,7 +111,7 @@ fn judged_header(cut: HeaderCut<'_>) -> Result<Header<'_>, Cause>
 /// The parts of a header, by characters alone.
 #[tactic(auto, unfolding(crate::specs::HeaderReading::cut_header))]
 fn cut_header(line: &[u8]) -> HeaderCut<'_>
-    ensures { cut_view result ≡ cut_header line.now }
+    ensures { header_cut_view result ≡ cut_header line.now }
 {
     let front = front_of(line);
     let rest = behind_date(front);
@@ -125,7 +125,7 @@ fn cut_header(line: &[u8]) -> HeaderCut<'_>
 
 /// Whether a part has too many bytes.
 fn is_cut_long(cut: &HeaderCut) -> bool
-    ensures { result ≡ is_cut_long (cut_view cut.now) }
+    ensures { result ≡ is_cut_long (header_cut_view cut.now) }
 {
     is_coded_long(cut.coded) || length_of(cut.comment) > MAX_COMMENT
 }

@@ -10,7 +10,7 @@ use Rattle.std.specs.declared.alloc.AllocError.{AllocError}
 use Rattle.std.proofs.lemmas.Grind.{flat_map-append}
 use Rattle.std.proofs.lemmas.List.Folds.{flat_map-map}
 use Rattle.json_text.specs.JsonText.{with_commas}
-use Rattle.json_text.specs.Growing.{Grows}
+use Rattle.json_text.specs.Growing.{AppendsText}
 use Rattle.json_text.proofs.GrowLemmas.{grows_as, grows_then, grows_stop_then}
 
 -- whether nothing stands before
@@ -71,15 +71,15 @@ module _ {X : Type 0} (written : X → List ℕ) (before : List X) (x : X) (firs
       ap (λ (b : Bool). with_commas written before ++ (if b then written x else codes "," ++ written x)) e
       ∙ with_commas_more written before x
 
-  pub commas_next : first ≡ is_empty before → Grows (with_commas written before) old mid (Ok tt)
-      → Grows next mid new (Ok tt) → Grows (with_commas written (before ++ x ∷ [])) old new (Ok tt)
+  pub commas_next : first ≡ is_empty before → AppendsText (with_commas written before) old mid (Ok tt)
+      → AppendsText next mid new (Ok tt) → AppendsText (with_commas written (before ++ x ∷ [])) old new (Ok tt)
   commas_next e so_far one =
       grows_as (with_commas written before ++ next) (with_commas written (before ++ x ∷ [])) old new (Ok tt) (next_is e)
       (grows_then (with_commas written before) next old mid new (Ok tt) so_far one)
 
   pub commas_failed : (after : List X) (error : AllocError) → first ≡ is_empty before
-      → Grows (with_commas written before) old mid (Ok tt) → Grows next mid new (Err error)
-      → Grows (with_commas written (before ++ x ∷ after)) old new (Err error)
+      → AppendsText (with_commas written before) old mid (Ok tt) → AppendsText next mid new (Err error)
+      → AppendsText (with_commas written (before ++ x ∷ after)) old new (Err error)
   commas_failed after error e so_far one =
       let more = flat_map (λ y. codes "," ++ written y) after in
       grows_as (with_commas written before ++ next ++ more) (with_commas written (before ++ x ∷ after)) old new

@@ -8,14 +8,14 @@ use Rattle.std.specs.Prelude.{Result, Ok, Err}
 use Rattle.std.specs.declared.alloc.AllocError.{AllocError}
 use Rattle.money_core.proofs.Appends.{kept_behind}
 use Rattle.money_core.proofs.PrintedLemmas.{appended_twice}
-use Rattle.json_text.specs.Growing.{Grows}
+use Rattle.json_text.specs.Growing.{AppendsText}
 
 -- how a call ends
 abbrev pub Ending : Type 0
 Ending = Result (Unit {0}) AllocError
 
 -- nothing was appended
-pub grows_nothing : (v : Vec ℕ Global) → Grows [] v v (Ok tt)
+pub grows_nothing : (v : Vec ℕ Global) → AppendsText [] v v (Ok tt)
 grows_nothing v = record {
   ok = sym (append-nil v.items);
   front = tt;
@@ -25,7 +25,7 @@ grows_nothing v = record {
 
 -- a second call after one that appended its part
 pub grows_then : (a b : List ℕ) (old mid new : Vec ℕ Global) (r : Ending)
-    → Grows a old mid (Ok tt) → Grows b mid new r → Grows (a ++ b) old new r
+    → AppendsText a old mid (Ok tt) → AppendsText b mid new r → AppendsText (a ++ b) old new r
 grows_then a b old mid new r first second = record {
   ok = by_end r second.ok;
   front = by_error r second.front;
@@ -51,7 +51,7 @@ grows_then a b old mid new r first second = record {
 
 -- a call that failed, whatever was to come after it
 pub grows_stop : (a b : List ℕ) (old new : Vec ℕ Global) (e : AllocError)
-    → Grows a old new (Err e) → Grows (a ++ b) old new (Err e)
+    → AppendsText a old new (Err e) → AppendsText (a ++ b) old new (Err e)
 grows_stop a b old new e failed = record {
   ok = tt;
   front = failed.front;
@@ -60,33 +60,35 @@ grows_stop a b old new e failed = record {
 }
 
 -- the same of two parts that one text has been
-pub grows_as : (a b : List ℕ) (old new : Vec ℕ Global) (r : Ending) → a ≡ b → Grows a old new r → Grows b old new r
-grows_as a b old new r same grown = subst (λ (t : List ℕ). Grows t old new r) same grown
+pub grows_as : (a b : List ℕ) (old new : Vec ℕ Global) (r : Ending) → a ≡ b → AppendsText a old new r
+    → AppendsText b old new r
+grows_as a b old new r same grown = subst (λ (t : List ℕ). AppendsText t old new r) same grown
 
 -- a second call after one that appended its part, and failed, whatever was to come after it
 pub grows_stop_then : (a b rest : List ℕ) (old mid new : Vec ℕ Global) (e : AllocError)
-    → Grows a old mid (Ok tt) → Grows b mid new (Err e) → Grows (a ++ b ++ rest) old new (Err e)
+    → AppendsText a old mid (Ok tt) → AppendsText b mid new (Err e) → AppendsText (a ++ b ++ rest) old new (Err e)
 grows_stop_then a b rest old mid new e first failed =
     grows_stop (a ++ b) rest old new e (grows_then a b old mid new (Err e) first failed)
 
 -- three calls
 pub grows_thrice : (a b c : List ℕ) (old one two new : Vec ℕ Global) (r : Ending)
-    → Grows a old one (Ok tt) → Grows b one two (Ok tt) → Grows c two new r → Grows (a ++ b ++ c) old new r
+    → AppendsText a old one (Ok tt) → AppendsText b one two (Ok tt) → AppendsText c two new r
+    → AppendsText (a ++ b ++ c) old new r
 grows_thrice a b c old one two new r first second third =
     grows_then (a ++ b) c old two new r (grows_then a b old one two (Ok tt) first second) third
 
 -- ---- the parts of a list, one after another
 
 module _ {X : Type 0} (f : X → List ℕ) (xs : List X) (i : ℕ) (d : X) (old mid new : Vec ℕ Global) where
-  pub grows_next : i < length xs → Grows (flat_map f (take i xs)) old mid (Ok tt)
-      → Grows (f (get_or xs i d)) mid new (Ok tt) → Grows (flat_map f (take (i + 1) xs)) old new (Ok tt)
+  pub grows_next : i < length xs → AppendsText (flat_map f (take i xs)) old mid (Ok tt)
+      → AppendsText (f (get_or xs i d)) mid new (Ok tt) → AppendsText (flat_map f (take (i + 1) xs)) old new (Ok tt)
   grows_next h so_far one =
       grows_as (flat_map f (take i xs) ++ f (get_or xs i d)) (flat_map f (take (i + 1) xs)) old new (Ok tt)
       (flat_map_more f [] (take i xs) (get_or xs i d) ∙ ap (flat_map f) (sym (take_more xs i d h)))
       (grows_then (flat_map f (take i xs)) (f (get_or xs i d)) old mid new (Ok tt) so_far one)
 
-  pub grows_failed : (e : AllocError) → i < length xs → Grows (flat_map f (take i xs)) old mid (Ok tt)
-      → Grows (f (get_or xs i d)) mid new (Err e) → Grows (flat_map f xs) old new (Err e)
+  pub grows_failed : (e : AllocError) → i < length xs → AppendsText (flat_map f (take i xs)) old mid (Ok tt)
+      → AppendsText (f (get_or xs i d)) mid new (Err e) → AppendsText (flat_map f xs) old new (Err e)
   grows_failed e h so_far one =
       grows_as (flat_map f (take i xs) ++ f (get_or xs i d) ++ flat_map f (drop (i + 1) xs)) (flat_map f xs) old new
       (Err e)

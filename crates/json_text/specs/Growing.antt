@@ -5,7 +5,7 @@ use Rattle.std.specs.declared.alloc.Global.{Global}
 use Rattle.std.specs.declared.alloc.AllocError.{AllocError}
 
 -- the text was appended; or memory was refused, where there was no room for it, and what was there stands in front
-pub record Grows (text : List ℕ) (old new : Vec ℕ Global) (result : Result (Unit {0}) AllocError) : Type 0 where
+pub record AppendsText (text : List ℕ) (old new : Vec ℕ Global) (result : Result (Unit {0}) AllocError) : Type 0 where
   pub ok : OnOk result (new.items ≡ old.items ++ text)
   pub front : OnErr result (take (length old.items) new.items ≡ old.items)
   pub room : length old.items + length text ≤ vec_capacity old → IsOk result

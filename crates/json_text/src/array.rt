@@ -3,7 +3,7 @@
 ghost use Rattle.std.specs.Prelude.{◌≡◌, ◌≤◌, ◌+◌, ◌++◌, map, length, vec_capacity, OnOk, OnErr, IsOk, codes};
 ghost use Rattle.std.specs.Prelude.{if◌then◌else◌, drop};
 ghost use Rattle.json_text.specs.JsonText.{quoted, with_commas, strings_text, lines_of};
-ghost use Rattle.json_text.specs.Growing.{Grows};
+ghost use Rattle.json_text.specs.Growing.{AppendsText};
 
 use crate::bytes::grow_bytes;
 use crate::string::grow_string;
@@ -12,7 +12,7 @@ use std::alloc::AllocError;
 
 /// Appends a string, after a comma where it is not the first.
 fn grow_next(first: bool, text: &[u8], out: &mut Vec<u8>) -> Result<(), AllocError>
-    ensures { Grows (if first then quoted text.now else codes "," ++ quoted text.now) out.old out.new result }
+    ensures { AppendsText (if first then quoted text.now else codes "," ++ quoted text.now) out.old out.new result }
 {
     if first {
         return grow_string(text, out);
@@ -25,7 +25,7 @@ fn grow_next(first: bool, text: &[u8], out: &mut Vec<u8>) -> Result<(), AllocErr
 
 /// Appends the strings of texts, with a comma between one and the next.
 fn grow_texts(texts: &[&[u8]], out: &mut Vec<u8>) -> Result<(), AllocError>
-    ensures { Grows (with_commas (λ text. quoted text.now) texts.now) out.old out.new result }
+    ensures { AppendsText (with_commas (λ text. quoted text.now) texts.now) out.old out.new result }
 {
     let mut first = true;
     'texts: for text in texts {
@@ -51,7 +51,7 @@ fn behind_line(text: &[u8], end: usize) -> &[u8]
 
 /// Appends the strings of the lines of a text, with a comma between one and the next.
 fn grow_all_lines(text: &[u8], out: &mut Vec<u8>) -> Result<(), AllocError>
-    ensures { Grows (with_commas quoted (lines_of text.now)) out.old out.new result }
+    ensures { AppendsText (with_commas quoted (lines_of text.now)) out.old out.new result }
 {
     let mut first = true;
     let mut rest = text;
@@ -68,7 +68,7 @@ fn grow_all_lines(text: &[u8], out: &mut Vec<u8>) -> Result<(), AllocError>
 
 /// Appends the array of the lines of a text.
 pub(crate) fn grow_lines(text: &[u8], out: &mut Vec<u8>) -> Result<(), AllocError>
-    ensures { Grows (strings_text (lines_of text.now)) out.old out.new result }
+    ensures { AppendsText (strings_text (lines_of text.now)) out.old out.new result }
 {
     match grow_bytes(b"[", out) {
         Ok(()) => {}
@@ -82,7 +82,7 @@ pub(crate) fn grow_lines(text: &[u8], out: &mut Vec<u8>) -> Result<(), AllocErro
 
 /// Appends the array of texts.
 fn grow_strings(texts: &[&[u8]], out: &mut Vec<u8>) -> Result<(), AllocError>
-    ensures { Grows (strings_text (map (λ text. text.now) texts.now)) out.old out.new result }
+    ensures { AppendsText (strings_text (map (λ text. text.now) texts.now)) out.old out.new result }
 {
     match grow_bytes(b"[", out) {
         Ok(()) => {}
@@ -144,7 +144,7 @@ fn behind_first(text: &[u8]) -> &[u8]
 
 /// Appends the array of elements that stand each after a comma.
 fn grow_array(elements: &[u8], out: &mut Vec<u8>) -> Result<(), AllocError>
-    ensures { Grows (codes "[" ++ drop 1 elements.now ++ codes "]") out.old out.new result }
+    ensures { AppendsText (codes "[" ++ drop 1 elements.now ++ codes "]") out.old out.new result }
 {
     match grow_bytes(b"[", out) {
         Ok(()) => {}

@@ -4,7 +4,7 @@ ghost use Rattle.std.specs.Prelude.{◌≡◌, ◌≤◌, ◌+◌, ◌++◌, len
 ghost use Rattle.std.specs.Prelude.{if◌then◌else◌};
 ghost use Rattle.json_text.specs.JsonText.{held_text, member_text, with_commas, object_text};
 ghost use Rattle.json_text.specs.Members.{held_of, member_of, members_of};
-ghost use Rattle.json_text.specs.Growing.{Grows};
+ghost use Rattle.json_text.specs.Growing.{AppendsText};
 
 use crate::array::grow_lines;
 use crate::bytes::grow_bytes;
@@ -29,7 +29,7 @@ pub struct Member<'a> {
 
 /// Appends what an object has at a key.
 fn grow_value(value: &MemberValue, out: &mut Vec<u8>) -> Result<(), AllocError>
-    ensures { Grows (held_text (held_of value.now)) out.old out.new result }
+    ensures { AppendsText (held_text (held_of value.now)) out.old out.new result }
 {
     match value {
         MemberValue::Text(text) => grow_string(text, out),
@@ -39,7 +39,7 @@ fn grow_value(value: &MemberValue, out: &mut Vec<u8>) -> Result<(), AllocError>
 
 /// Appends a member.
 fn grow_member(member: &Member, out: &mut Vec<u8>) -> Result<(), AllocError>
-    ensures { Grows (member_text (member_of member.now)) out.old out.new result }
+    ensures { AppendsText (member_text (member_of member.now)) out.old out.new result }
 {
     match grow_string(member.key, out) {
         Ok(()) => {}
@@ -53,7 +53,7 @@ fn grow_member(member: &Member, out: &mut Vec<u8>) -> Result<(), AllocError>
 
 /// Appends a member, after a comma where it is not the first.
 fn grow_next(first: bool, member: &Member, out: &mut Vec<u8>) -> Result<(), AllocError>
-    ensures { Grows (if first then member_text (member_of member.now)
+    ensures { AppendsText (if first then member_text (member_of member.now)
         else codes "," ++ member_text (member_of member.now)) out.old out.new result }
 {
     if first {
@@ -67,7 +67,7 @@ fn grow_next(first: bool, member: &Member, out: &mut Vec<u8>) -> Result<(), Allo
 
 /// Appends members, with a comma between one and the next.
 fn grow_members(members: &[Member], out: &mut Vec<u8>) -> Result<(), AllocError>
-    ensures { Grows (with_commas (λ m. member_text (member_of m)) members.now) out.old out.new result }
+    ensures { AppendsText (with_commas (λ m. member_text (member_of m)) members.now) out.old out.new result }
 {
     let mut first = true;
     'members: for member in members {
@@ -81,7 +81,7 @@ fn grow_members(members: &[Member], out: &mut Vec<u8>) -> Result<(), AllocError>
 
 /// Appends an object.
 fn grow_object(members: &[Member], out: &mut Vec<u8>) -> Result<(), AllocError>
-    ensures { Grows (object_text (members_of members.now)) out.old out.new result }
+    ensures { AppendsText (object_text (members_of members.now)) out.old out.new result }
 {
     match grow_bytes(b"{", out) {
         Ok(()) => {}

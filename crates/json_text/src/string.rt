@@ -4,7 +4,7 @@ ghost use Rattle.std.specs.Prelude.{nat_lt, ◌==◌, ◌||◌, ◌≡◌, ◌<�
 ghost use Rattle.std.specs.Prelude.{IsOk};
 ghost use Rattle.std.specs.List.{flat_map};
 ghost use Rattle.json_text.specs.JsonText.{hex_digit, escaped, quoted};
-ghost use Rattle.json_text.specs.Growing.{Grows};
+ghost use Rattle.json_text.specs.Growing.{AppendsText};
 
 use crate::bytes::grow_bytes;
 use std::alloc::AllocError;
@@ -37,7 +37,7 @@ fn is_control(byte: u8) -> bool
 
 /// Appends what stands for a byte in a string.
 fn grow_escaped(byte: u8, out: &mut Vec<u8>) -> Result<(), AllocError>
-    ensures { Grows (escaped byte) out.old out.new result }
+    ensures { AppendsText (escaped byte) out.old out.new result }
 {
     if is_marked(byte) {
         return grow_bytes(&[b'\\', byte], out);
@@ -52,7 +52,7 @@ fn grow_escaped(byte: u8, out: &mut Vec<u8>) -> Result<(), AllocError>
 
 /// Appends what stands for the bytes of a text in a string.
 fn grow_all_escaped(text: &[u8], out: &mut Vec<u8>) -> Result<(), AllocError>
-    ensures { Grows (flat_map escaped text.now) out.old out.new result }
+    ensures { AppendsText (flat_map escaped text.now) out.old out.new result }
 {
     'bytes: for byte in text {
         match grow_escaped(*byte, out) {
@@ -65,7 +65,7 @@ fn grow_all_escaped(text: &[u8], out: &mut Vec<u8>) -> Result<(), AllocError>
 
 /// Appends the string of a text.
 pub(crate) fn grow_string(text: &[u8], out: &mut Vec<u8>) -> Result<(), AllocError>
-    ensures { Grows (quoted text.now) out.old out.new result }
+    ensures { AppendsText (quoted text.now) out.old out.new result }
 {
     match grow_bytes(b"\"", out) {
         Ok(()) => {}

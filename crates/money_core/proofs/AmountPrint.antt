@@ -18,10 +18,10 @@ use Rattle.money_core.specs.declared.style.Style.{Style}
 use Rattle.money_core.specs.declared.unit.Unit.{Unit as Commodity}
 use Rattle.money_core.specs.declared.cause.Cause.{Cause}
 use Rattle.money_core.specs.declared.cause.Cause.TheVariants.{Amount, Decimals}
-use Rattle.money_core.specs.Class.{has}
+use Rattle.money_core.specs.Class.{is_of_class}
 use Rattle.money_core.specs.Number.{is_number, fits_decimals, fraction_part, quantity}
 use Rattle.money_core.specs.Printed.{printed_number}
-use Rattle.money_core.specs.Symbol.{is_short, is_bare, is_symbol, is_quoted_byte}
+use Rattle.money_core.specs.Symbol.{is_short_symbol, is_bare, is_symbol, is_quoted_byte}
 use Rattle.money_core.specs.Amount.{Parts, limit, with_sign, place_of}
 use Rattle.money_core.specs.Cutting.{amount_parts}
 use Rattle.money_core.specs.Reading.{quantity_in, with_unit, amount_in, amount_at, amount_of_parts, amount}
@@ -139,10 +139,10 @@ quoted_text (b ∷ xs) h =
     let parts = and_parts (is_quoted_byte b) _ h in
     cond-false (b == 34) _ _ (quoted_no_quote b parts.0) ∙ and_from _ _ parts.0 (quoted_text xs parts.1)
 
-symbol_amount : (b : ℕ) → has Symbol b ≡ true → is_amount_byte b ≡ true
+symbol_amount : (b : ℕ) → is_of_class Symbol b ≡ true → is_amount_byte b ≡ true
 symbol_amount b h = grind (arith, common_steps)
 
-number_amount : (b : ℕ) → has Number b ≡ true → is_amount_byte b ≡ true
+number_amount : (b : ℕ) → is_of_class Number b ≡ true → is_amount_byte b ≡ true
 number_amount b h = grind (arith, common_steps)
 
 symbol_text : (symbol : List ℕ) → list_all is_quoted_byte symbol ≡ true
@@ -151,13 +151,15 @@ unfolding printed_symbol
 symbol_text symbol plain =
     elim (cases_Bool (is_bare symbol)) [
       | inl bare ↦ rw bare (bare_text symbol
-          (all_weaker (has Symbol) is_amount_byte symbol symbol_amount (bare_facts symbol bare).bytes))
+          (all_weaker (is_of_class Symbol) is_amount_byte symbol symbol_amount (bare_facts symbol bare).bytes))
       | inr quoted ↦ rw quoted (quoted_text symbol plain)
     ]
 
 signed_text : (q : ℤ) (number : List ℕ) → NumberText number → is_amount_text false (minus q ++ number) ≡ true
-signed_text (pos n) number t = bare_text number (all_weaker (has Number) is_amount_byte number number_amount t.bytes)
-signed_text (negsuc n) number t = bare_text number (all_weaker (has Number) is_amount_byte number number_amount t.bytes)
+signed_text (pos n) number t =
+    bare_text number (all_weaker (is_of_class Number) is_amount_byte number number_amount t.bytes)
+signed_text (negsuc n) number t =
+    bare_text number (all_weaker (is_of_class Number) is_amount_byte number number_amount t.bytes)
 
 gap_text : (spaced : Bool) → is_amount_text false (gap spaced) ≡ true
 gap_text true = refl
@@ -178,9 +180,9 @@ last_passes p xs h l = AllPass-from_list_all p xs h (length xs - 1) 0 (omega (ar
 record SymbolEnds (text : List ℕ) : Type 0 where
   some : 0 < length text
   few : length text ≤ 26
-  last : has Blank (slice_index text (length text - 1)) ≡ false
+  last : is_of_class Blank (slice_index text (length text - 1)) ≡ false
 
-symbol_ends : (symbol : List ℕ) → is_short symbol ≡ true → SymbolEnds (printed_symbol symbol)
+symbol_ends : (symbol : List ℕ) → is_short_symbol symbol ≡ true → SymbolEnds (printed_symbol symbol)
 unfolding printed_symbol
 symbol_ends symbol h =
     let some = short_some symbol h in
@@ -190,12 +192,12 @@ symbol_ends symbol h =
         some = some;
         few = omega (arith, few);
         last = symbol_no_blank (slice_index symbol (length symbol - 1))
-            (last_passes (has Symbol) symbol (bare_facts symbol bare).bytes some);
+            (last_passes (is_of_class Symbol) symbol (bare_facts symbol bare).bytes some);
       })
       | inr quoted ↦ rw quoted (record {
         some = omega arith;
         few = omega (arith, few, length-append symbol (34 ∷ []));
-        last = ap (has Blank) (last_of (34 ∷ symbol) (34 ∷ []) (lit< tt));
+        last = ap (is_of_class Blank) (last_of (34 ∷ symbol) (34 ∷ []) (lit< tt));
       })
     ]
 
@@ -208,7 +210,7 @@ gap_length true = omega arith
 gap_length false = omega arith
 
 signed_first : (q : ℤ) (number rest : List ℕ) → NumberText number
-    → has Blank (slice_index ((minus q ++ number) ++ rest) 0) ≡ false
+    → is_of_class Blank (slice_index ((minus q ++ number) ++ rest) 0) ≡ false
 signed_first (pos n) number rest t = number_no_blank (slice_index (number ++ rest) 0) (first_number number rest t)
 signed_first (negsuc n) number rest t = refl
 
@@ -217,8 +219,8 @@ pub record AmountEnds (decimals : ℕ) (text : List ℕ) : Type 0 where
   pub form : is_amount_text false text ≡ true
   pub utf8 : is_utf8 text ≡ true
   pub some : 0 < length text
-  pub first : has Blank (slice_index text 0) ≡ false
-  pub last : has Blank (slice_index text (length text - 1)) ≡ false
+  pub first : is_of_class Blank (slice_index text 0) ≡ false
+  pub last : is_of_class Blank (slice_index text (length text - 1)) ≡ false
   pub short : length text ≤ decimals + 53
 
 pub amount_ends : (style : Style) (decimals : ℕ) (q : ℤ) → is_symbol style.symbol ≡ true → unsigned_abs q ≤ limit
@@ -247,12 +249,12 @@ amount_ends style decimals q ok l =
             some = omega (arith, s.some, length-append symbol (g ++ (minus q ++ number)));
             first = (symbol_begins style.symbol symbol (g ++ (minus q ++ number))
                 (printed_symbol_writes style.symbol ok)).no_blank;
-            last = ap (has Blank) (last_of symbol (g ++ (minus q ++ number))
+            last = ap (is_of_class Blank) (last_of symbol (g ++ (minus q ++ number))
                 (omega (arith, t.some, length-append g (minus q ++ number), length-append (minus q) number)) ∙
                 (last_of g (minus q ++ number) (omega (arith, t.some, length-append (minus q) number)) ∙ last_of
                 (minus q) number t.some))
                 ∙ number_no_blank (slice_index number (length number - 1))
-                (last_passes (has Number) number t.bytes t.some);
+                (last_passes (is_of_class Number) number t.bytes t.some);
             short = omega (
               arith,
               s.few,
@@ -272,7 +274,7 @@ amount_ends style decimals q ok l =
                 (text_joined false g _ (gap_text style.spaced) (symbol_text style.symbol facts.bytes));
             some = omega (arith, s.some, length-append (minus q ++ number) (g ++ symbol), length-append g symbol);
             first = signed_first q number (g ++ symbol) t;
-            last = ap (has Blank) (last_of (minus q ++ number) (g ++ symbol)
+            last = ap (is_of_class Blank) (last_of (minus q ++ number) (g ++ symbol)
                 (omega (arith, s.some, length-append g symbol)) ∙ last_of g symbol s.some) ∙ s.last;
             short = omega (
               arith,

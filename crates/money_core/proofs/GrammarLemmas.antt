@@ -21,12 +21,13 @@ use Rattle.money_core.specs.declared.class.Class.TheVariants.{Blank, Symbol, Num
 use Rattle.money_core.specs.declared.amount.Sign.{Sign}
 use Rattle.money_core.specs.declared.amount.Sign.TheVariants.{Absent, Plus, Minus}
 use Rattle.money_core.specs.Blank.{IsBlanks}
-use Rattle.money_core.specs.Class.{has}
+use Rattle.money_core.specs.Class.{is_of_class}
 use Rattle.money_core.specs.Mark.{decimal_byte, group_byte}
 use Rattle.money_core.specs.Number.{is_group, is_whole, is_number, whole_part, fraction_part}
 use Rattle.money_core.specs.Symbol.{is_bare, is_symbol, is_quoted_byte, in_quotes, WritesSymbol}
 use Rattle.money_core.specs.Amount.{Parts, WritesSign, IsLeftAmount, IsRightAmount, IsAmount}
-use Rattle.money_core.specs.Cutting.{end_of, skip_blanks, Cut, cut_quoted, cut_bare, cut_symbol, symbol_of, sign_of}
+use Rattle.money_core.specs.Cutting.{end_of, skip_blanks, Cut, cut_quoted, cut_bare, cut_symbol, symbol_in_text}
+use Rattle.money_core.specs.Cutting.{sign_of}
 use Rattle.money_core.specs.Cutting.{unsigned, left_number, left_parts, right_symbol, right_parts, amount_parts}
 use Rattle.money_core.proofs.RoundTrip.{before_mark, split_some}
 use Rattle.money_core.proofs.SymbolText.{symbol_facts, bare_facts, short_some, written_symbol}
@@ -41,52 +42,54 @@ pub front_whole : (class : Class) (text : List ℕ)
     → text ≡ take (end_of class text) text ++ drop (end_of class text) text
 front_whole class text = sym (take-append-drop (end_of class text) text)
 
-pub front_passes : (class : Class) (text : List ℕ) → list_all (has class) (take (end_of class text) text) ≡ true
+pub front_passes : (class : Class) (text : List ℕ) → list_all (is_of_class class) (take (end_of class text) text) ≡ true
 front_passes class [] = refl
 front_passes class (x ∷ xs) =
-    elim (cases_Bool (has class x)) [
+    elim (cases_Bool (is_of_class class x)) [
       | inl here ↦ rw (here, one-add (end_of class xs), here) (front_passes class xs)
       | inr other ↦ rw other refl
     ]
 
 pub front_length : (class : Class) (text : List ℕ) → length (take (end_of class text) text) ≡ end_of class text
-front_length class text = length-prefix_len (λ b. not (not (has class b))) text
+front_length class text = length-prefix_len (λ b. not (not (is_of_class class b))) text
 
 -- what begins with a byte of another class ends a class
-pub ends_at_other : (class : Class) (rest : List ℕ) → has class (slice_index rest 0) ≡ false → EndsClass class rest
+pub ends_at_other : (class : Class) (rest : List ℕ) → is_of_class class (slice_index rest 0) ≡ false
+    → EndsClass class rest
 ends_at_other class [] h = tt
 ends_at_other class (b ∷ rest) h = h
 
 -- blanks, and what begins with none
-pub blanks_end : (blanks rest : List ℕ) → IsBlanks blanks → has Blank (slice_index rest 0) ≡ false
+pub blanks_end : (blanks rest : List ℕ) → IsBlanks blanks → is_of_class Blank (slice_index rest 0) ≡ false
     → end_of Blank (blanks ++ rest) ≡ length blanks
 blanks_end blanks rest h k = class_end Blank blanks rest h (ends_at_other Blank rest k)
 
-pub blanks_skipped : (blanks rest : List ℕ) → IsBlanks blanks → has Blank (slice_index rest 0) ≡ false
+pub blanks_skipped : (blanks rest : List ℕ) → IsBlanks blanks → is_of_class Blank (slice_index rest 0) ≡ false
     → skip_blanks (blanks ++ rest) ≡ rest
 blanks_skipped blanks rest h k = rw (blanks_end blanks rest h k) (drop_at blanks rest (length blanks) refl)
 
 -- a class that a blank is not of ends at blanks, too
-pub ends_at_blanks : (class : Class) (blanks rest : List ℕ) → ((b : ℕ) → has Blank b ≡ true → has class b ≡ false)
-    → IsBlanks blanks → has class (slice_index rest 0) ≡ false → EndsClass class (blanks ++ rest)
+pub ends_at_blanks : (class : Class) (blanks rest : List ℕ)
+    → ((b : ℕ) → is_of_class Blank b ≡ true → is_of_class class b ≡ false)
+    → IsBlanks blanks → is_of_class class (slice_index rest 0) ≡ false → EndsClass class (blanks ++ rest)
 ends_at_blanks class [] rest f h k = ends_at_other class rest k
-ends_at_blanks class (b ∷ blanks) rest f h k = f b (and_parts (has Blank b) _ h).0
+ends_at_blanks class (b ∷ blanks) rest f h k = f b (and_parts (is_of_class Blank b) _ h).0
 
 -- the first byte of a symbol as it is written
 pub record BeginsSymbol (text : List ℕ) : Type 0 where
-  pub first : (has Symbol (slice_index text 0) || (slice_index text 0 == 34)) ≡ true
+  pub first : (is_of_class Symbol (slice_index text 0) || (slice_index text 0 == 34)) ≡ true
   pub no_sign : sign_of (slice_index text 0) ≡ Absent
-  pub no_blank : has Blank (slice_index text 0) ≡ false
-  pub no_number : has Number (slice_index text 0) ≡ false
+  pub no_blank : is_of_class Blank (slice_index text 0) ≡ false
+  pub no_number : is_of_class Number (slice_index text 0) ≡ false
 
 no_sign_of : (b : ℕ) → (b == 45) ≡ false → (b == 43) ≡ false → sign_of b ≡ Absent
 no_sign_of b h k = rw (h, k) refl
 
-bare_begins : (text : List ℕ) → has Symbol (slice_index text 0) ≡ true → BeginsSymbol text
+bare_begins : (text : List ℕ) → is_of_class Symbol (slice_index text 0) ≡ true → BeginsSymbol text
 bare_begins text h =
     let b = slice_index text 0 in
     record {
-      first = or_left (has Symbol b) (b == 34) h;
+      first = or_left (is_of_class Symbol b) (b == 34) h;
       no_sign = no_sign_of b (symbol_no_minus b h) (symbol_no_plus b h);
       no_blank = symbol_no_blank b h;
       no_number = symbol_no_number b h;
@@ -95,7 +98,7 @@ bare_begins text h =
 pub symbol_begins : (symbol written rest : List ℕ) → WritesSymbol symbol written → BeginsSymbol (written ++ rest)
 symbol_begins symbol written rest (inl h) =
     rw h.1 (bare_begins (symbol ++ rest)
-    (first_passes (has Symbol) symbol rest (bare_facts symbol h.0).bytes
+    (first_passes (is_of_class Symbol) symbol rest (bare_facts symbol h.0).bytes
     (short_some symbol (bare_facts symbol h.0).short)))
 symbol_begins symbol written rest (inr h) =
     rw h.1 (record { first = refl; no_sign = refl; no_blank = refl; no_number = refl })
@@ -108,7 +111,7 @@ pub symbol_cut : (symbol written rest : List ℕ) → WritesSymbol symbol writte
     → cut_symbol (written ++ rest) ≡ Some (record { symbol = symbol; rest = rest })
 unfolding cut_symbol
 symbol_cut symbol written rest (inl h) ends =
-    let first = first_passes (has Symbol) symbol rest (bare_facts symbol h.0).bytes
+    let first = first_passes (is_of_class Symbol) symbol rest (bare_facts symbol h.0).bytes
     (short_some symbol (bare_facts symbol h.0).short) in
     rw (
       h.1,
@@ -185,8 +188,8 @@ symbol_front (b ∷ text) cut h =
     ]
 
 -- A text is a symbol exactly where it is cut whole.
-pub whole_symbol : (symbol text : List ℕ) → (symbol_of text ≡ Some symbol) ↔ WritesSymbol symbol text
-unfolding symbol_of
+pub whole_symbol : (symbol text : List ℕ) → (symbol_in_text text ≡ Some symbol) ↔ WritesSymbol symbol text
+unfolding symbol_in_text
 whole_symbol symbol text = (λ h. there (cut_symbol text) refl h, λ w. back w)
   where
     empty : (xs : List ℕ) → (length xs == 0) ≡ true → xs ≡ []
@@ -209,11 +212,11 @@ whole_symbol symbol text = (λ h. there (cut_symbol text) refl h, λ w. back w)
         → option_and_then (λ cut. cond (length cut.rest == 0) (Some cut.symbol) None) (cut_symbol text) ≡ Some symbol
     back w = let cut = symbol_cut symbol text [] w tt in rw (rw append-nil at cut) refl
 
-pub symbol_answer : (text : List ℕ) (o : Option (List ℕ)) → o ≡ symbol_of text → (symbol : List ℕ)
+pub symbol_answer : (text : List ℕ) (o : Option (List ℕ)) → o ≡ symbol_in_text text → (symbol : List ℕ)
     → (o ≡ Some symbol) ↔ WritesSymbol symbol text
 symbol_answer text o e symbol = (λ h. (whole_symbol symbol text).0 (sym e ∙ h), λ w. e ∙ (whole_symbol symbol text).1 w)
 
-pub whole_utf8 : (symbol text : List ℕ) → symbol_of text ≡ Some symbol → is_utf8 symbol ≡ true
+pub whole_utf8 : (symbol text : List ℕ) → symbol_in_text text ≡ Some symbol → is_utf8 symbol ≡ true
 whole_utf8 symbol text h = (symbol_facts symbol (written_symbol symbol text ((whole_symbol symbol text).0 h))).utf8
 
 -- what stands before the unsigned text is how its sign is written
@@ -256,7 +259,7 @@ pub record Unsigns (sign : Sign) (text rest : List ℕ) : Type 0 where
   pub rest_is : unsigned text ≡ rest
 
 pub sign_cut : (sign : Sign) (written rest : List ℕ) → WritesSign sign written → sign_of (slice_index rest 0) ≡ Absent
-    → has Blank (slice_index rest 0) ≡ false → Unsigns sign (written ++ rest) rest
+    → is_of_class Blank (slice_index rest 0) ≡ false → Unsigns sign (written ++ rest) rest
 sign_cut Absent written rest h s k = rw h (record { sign_is = s; rest_is = rw s refl })
 sign_cut Plus written rest h s k = rw h.1.1 (record { sign_is = refl; rest_is = blanks_skipped h.0 rest h.1.0 k })
 sign_cut Minus written rest h s k = rw h.1.1 (record { sign_is = refl; rest_is = blanks_skipped h.0 rest h.1.0 k })
@@ -297,7 +300,8 @@ digits_of_parts p xs h = weak xs (all_lists_weaker (slice_split p xs) h)
               and_from _ _ (or_left (is_ascii_digit x) (p x) both.0) (weak xs both.1)
         ]
 
-mark_number : (mark : Mark) → (has Number (group_byte mark) ≡ true) × (has Number (decimal_byte mark) ≡ true)
+mark_number : (mark : Mark) → (is_of_class Number (group_byte mark) ≡ true)
+    × (is_of_class Number (decimal_byte mark) ≡ true)
 mark_number Point = (refl, refl)
 mark_number Comma = (refl, refl)
 
@@ -313,27 +317,27 @@ number_parts mark number h =
 
 -- A number is made of digits and marks, and is not empty.
 pub record NumberText (number : List ℕ) : Type 0 where
-  pub bytes : list_all (has Number) number ≡ true
+  pub bytes : list_all (is_of_class Number) number ≡ true
   pub some : 0 < length number
 
 whole_bytes : (mark : Mark) (whole : List ℕ) → is_whole (group_byte mark) whole ≡ true
-    → list_all (has Number) whole ≡ true
+    → list_all (is_of_class Number) whole ≡ true
 whole_bytes mark [] h = refl
 whole_bytes mark (b ∷ whole) h =
     let k : list_all is_group (slice_split (λ b. b == group_byte mark) (b ∷ whole)) ≡ true =
     rw (ne_eqb (length (b ∷ whole)) 0 (omega arith)) at h in
-    all_weaker (λ b. is_ascii_digit b || (b == group_byte mark)) (has Number) (b ∷ whole) passes
+    all_weaker (λ b. is_ascii_digit b || (b == group_byte mark)) (is_of_class Number) (b ∷ whole) passes
     (digits_of_parts (λ b. b == group_byte mark) (b ∷ whole) k)
   where
-    passes : (c : ℕ) → (is_ascii_digit c || (c == group_byte mark)) ≡ true → has Number c ≡ true
+    passes : (c : ℕ) → (is_ascii_digit c || (c == group_byte mark)) ≡ true → is_of_class Number c ≡ true
     passes c t =
         elim (or_cases (is_ascii_digit c) (c == group_byte mark) t) [
           | inl digit ↦ digit_number c digit
-          | inr same ↦ ap (has Number) (eqb-true c (group_byte mark) same) ∙ (mark_number mark).0
+          | inr same ↦ ap (is_of_class Number) (eqb-true c (group_byte mark) same) ∙ (mark_number mark).0
         ]
 
 number_bytes : (mark : Mark) (number : List ℕ) → is_whole (group_byte mark) (whole_part mark number) ≡ true
-    → list_all is_ascii_digit (fraction_part mark number) ≡ true → list_all (has Number) number ≡ true
+    → list_all is_ascii_digit (fraction_part mark number) ≡ true → list_all (is_of_class Number) number ≡ true
 number_bytes mark number w f =
     let p : ℕ → Bool = λ b. b == decimal_byte mark in
     let whole = whole_bytes mark (whole_part mark number) w in
@@ -345,11 +349,11 @@ number_bytes mark number w f =
           let parts : number ≡ whole_part mark number ++ decimal_byte mark ∷ fraction_part mark number =
           rw byte at (split_at_first p number 0 inside) in
           let all =
-          all_joined (has Number) (whole_part mark number) (decimal_byte mark ∷ fraction_part mark number) whole
+          all_joined (is_of_class Number) (whole_part mark number) (decimal_byte mark ∷ fraction_part mark number) whole
           (and_from _ _ (mark_number mark).1
-          (all_weaker is_ascii_digit (has Number) (fraction_part mark number) digit_number f)) in
-          subst (λ (xs : List ℕ). list_all (has Number) xs ≡ true) (sym parts) all
-      | inr past ↦ subst (λ (xs : List ℕ). list_all (has Number) xs ≡ true)
+          (all_weaker is_ascii_digit (is_of_class Number) (fraction_part mark number) digit_number f)) in
+          subst (λ (xs : List ℕ). list_all (is_of_class Number) xs ≡ true) (sym parts) all
+      | inr past ↦ subst (λ (xs : List ℕ). list_all (is_of_class Number) xs ≡ true)
           (take_all (position_or_len p number) number past) whole
     ]
 
@@ -360,12 +364,13 @@ number_text mark (b ∷ number) h =
     record { bytes = number_bytes mark (b ∷ number) k.0 k.1; some = omega arith }
 
 -- a number at the front
-pub first_number : (number rest : List ℕ) → NumberText number → has Number (slice_index (number ++ rest) 0) ≡ true
-first_number number rest h = first_passes (has Number) number rest h.bytes h.some
+pub first_number : (number rest : List ℕ) → NumberText number
+    → is_of_class Number (slice_index (number ++ rest) 0) ≡ true
+first_number number rest h = first_passes (is_of_class Number) number rest h.bytes h.some
 
-pub alone_first : (number : List ℕ) → NumberText number → has Number (slice_index number 0) ≡ true
+pub alone_first : (number : List ℕ) → NumberText number → is_of_class Number (slice_index number 0) ≡ true
 alone_first number h =
-    ap (λ (xs : List ℕ). has Number (slice_index xs 0)) (sym (append-nil number)) ∙ first_number number [] h
+    ap (λ (xs : List ℕ). is_of_class Number (slice_index xs 0)) (sym (append-nil number)) ∙ first_number number [] h
 
 -- a symbol on the left, after a sign
 left_after_sign : (sign : Sign) (symbol blanks number : List ℕ) → NumberText number → IsBlanks blanks
@@ -390,7 +395,8 @@ left_after_sign Minus symbol blanks number t h =
 
 -- what stands at the front of a number with its sign
 signed_first : (sign : Sign) (inner number : List ℕ) → NumberText number → WritesSign sign inner
-    → (has Blank (slice_index (inner ++ number) 0) ≡ false) × (has Symbol (slice_index (inner ++ number) 0) ≡ false)
+    → (is_of_class Blank (slice_index (inner ++ number) 0) ≡ false)
+    × (is_of_class Symbol (slice_index (inner ++ number) 0) ≡ false)
 signed_first Absent inner number t h =
     rw h (
       number_no_blank (slice_index number 0) (alone_first number t),
@@ -423,8 +429,8 @@ parts_on_left : (text body : List ℕ) (sign : Sign) → Unsigns sign text body 
 unfolding amount_parts
 parts_on_left text body sign u b = rw (u.rest_is, u.sign_is, b.first) refl
 
-parts_on_right : (text body : List ℕ) (sign : Sign) → Unsigns sign text body → has Number (slice_index body 0) ≡ true
-    → amount_parts text ≡ right_parts sign body
+parts_on_right : (text body : List ℕ) (sign : Sign) → Unsigns sign text body
+    → is_of_class Number (slice_index body 0) ≡ true → amount_parts text ≡ right_parts sign body
 unfolding amount_parts
 parts_on_right text body sign u h =
     let b = slice_index body 0 in
@@ -652,12 +658,12 @@ cut_amount mark text parts h n =
     let sign = sign_of (slice_index text 0) in
     record {
       number = n;
-      form = elim (cases_Bool (has Symbol b || (b == 34))) [
+      form = elim (cases_Bool (is_of_class Symbol b || (b == 34))) [
         | inl left ↦ inl (left_back text parts
-            (sym (cond-true (has Symbol b || (b == 34)) (left_parts sign (unsigned text))
+            (sym (cond-true (is_of_class Symbol b || (b == 34)) (left_parts sign (unsigned text))
             (right_parts sign (unsigned text)) left) ∙ h))
         | inr right ↦ inr (right_back text parts
-            (sym (cond-false (has Symbol b || (b == 34)) (left_parts sign (unsigned text))
+            (sym (cond-false (is_of_class Symbol b || (b == 34)) (left_parts sign (unsigned text))
             (right_parts sign (unsigned text)) right) ∙ h))
       ];
     }

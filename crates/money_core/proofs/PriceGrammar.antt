@@ -18,13 +18,13 @@ use Rattle.money_core.specs.declared.price.Price.TheVariants.{Each, Total}
 use Rattle.money_core.specs.declared.cause.Cause.{Cause}
 use Rattle.money_core.specs.declared.cause.Cause.TheVariants.{Amount, UnknownCommodity, Cost}
 use Rattle.money_core.specs.Blank.{IsBlanks}
-use Rattle.money_core.specs.Class.{has}
+use Rattle.money_core.specs.Class.{is_of_class}
 use Rattle.money_core.specs.Number.{is_number, fraction_part, fits_decimals, quantity}
 use Rattle.money_core.specs.Amount.{Parts, WritesSign, IsLeftAmount, IsAmount, limit, place_of, HasForm, HasNoForm}
 use Rattle.money_core.specs.Amount.{NamesUndeclared}
 use Rattle.money_core.specs.Cutting.{end_of, skip_blanks, amount_parts}
 use Rattle.money_core.specs.Price.{unit_limit, is_negative, cost_unit, IsUnitCost, IsTotalCost, IsCostOf, is_total}
-use Rattle.money_core.specs.Price.{IsMarked, WritesPrice, HasNoPriceForm, NamesUndeclaredCost, HasNoCost}
+use Rattle.money_core.specs.Price.{IsMarkedPrice, WritesPrice, HasNoPriceForm, NamesUndeclaredCost, HasNoCost}
 use Rattle.money_core.specs.PriceReading.{significant, kept_decimals, unit_cost, total_cost, price_in, price_at}
 use Rattle.money_core.specs.PriceReading.{price_of_parts, price}
 use Rattle.money_core.proofs.ClassLemmas.{number_no_blank}
@@ -149,16 +149,16 @@ cost_fault false style place parts cause h =
 
 -- how an amount begins: with no blank and no `@`
 record Begins (text : List ℕ) : Type 0 where
-  no_blank : has Blank (slice_index text 0) ≡ false
+  no_blank : is_of_class Blank (slice_index text 0) ≡ false
   no_at : (slice_index text 0 == 64) ≡ false
 
-symbol_no_at : (b : ℕ) → (has Symbol b || (b == 34)) ≡ true → (b == 64) ≡ false
+symbol_no_at : (b : ℕ) → (is_of_class Symbol b || (b == 34)) ≡ true → (b == 64) ≡ false
 symbol_no_at b h = grind (arith, common_steps)
 
-pub number_no_at : (b : ℕ) → has Number b ≡ true → (b == 64) ≡ false
+pub number_no_at : (b : ℕ) → is_of_class Number b ≡ true → (b == 64) ≡ false
 number_no_at b h = grind (arith, common_steps)
 
-blank_no_at : (b : ℕ) → has Blank b ≡ true → (b == 64) ≡ false
+blank_no_at : (b : ℕ) → is_of_class Blank b ≡ true → (b == 64) ≡ false
 blank_no_at b h = grind (arith, common_steps)
 
 signed_begins : (sign : Sign) (written rest : List ℕ) → WritesSign sign written → Begins rest → Begins (written ++ rest)
@@ -199,7 +199,8 @@ record IsCutSo (total : Bool) (amount text : List ℕ) : Type 0 where
   sort : (slice_index (drop 1 text) 0 == 64) ≡ total
   rest : behind_mark text ≡ amount
 
-cut_so : (total : Bool) (amount text : List ℕ) → IsMarked total amount text → Begins amount → IsCutSo total amount text
+cut_so : (total : Bool) (amount text : List ℕ) → IsMarkedPrice total amount text → Begins amount
+    → IsCutSo total amount text
 cut_so true amount text p b =
     rw p.whole (record { begins = refl; sort = refl; rest = blanks_skipped p.blanks amount p.between b.no_blank })
 cut_so false amount text p b =
@@ -213,7 +214,7 @@ cut_so false amount text p b =
   where
     second : (blanks : List ℕ) → IsBlanks blanks → (slice_index (blanks ++ amount) 0 == 64) ≡ false
     second [] h = b.no_at
-    second (x ∷ xs) h = blank_no_at x (and_parts (has Blank x) _ h).0
+    second (x ∷ xs) h = blank_no_at x (and_parts (is_of_class Blank x) _ h).0
 
 -- the price after it
 price_behind : (styles : List Style) (total : Bool) (amount text : List ℕ) → IsCutSo total amount text
@@ -233,7 +234,7 @@ first_at : (text : List ℕ) → (slice_index text 0 == 64) ≡ true → text �
 first_at [] h = absurd cc
 first_at (x ∷ xs) h = ap (λ (b : ℕ). b ∷ xs) (eqb-true x 64 h)
 
-prices_cut : (total : Bool) (amount text : List ℕ) → IsCutSo total amount text → IsMarked total amount text
+prices_cut : (total : Bool) (amount text : List ℕ) → IsCutSo total amount text → IsMarkedPrice total amount text
 prices_cut true amount text c =
     let u = drop 1 (drop 1 text) in
     let rest : skip_blanks u ≡ amount =
@@ -255,7 +256,8 @@ prices_cut false amount text c =
           (front_whole Blank u ∙ ap (λ (xs : List ℕ). take (end_of Blank u) u ++ xs) rest);
     }
 
-prices_begin : (total : Bool) (amount text : List ℕ) → IsMarked total amount text → (slice_index text 0 == 64) ≡ true
+prices_begin : (total : Bool) (amount text : List ℕ) → IsMarkedPrice total amount text
+    → (slice_index text 0 == 64) ≡ true
 prices_begin true amount text p = rw p.whole refl
 prices_begin false amount text p = rw p.whole refl
 
@@ -303,7 +305,7 @@ says_formed styles text total rest parts place style c at its a = go (cost_at to
         let read = cost_read total style place parts p e in
         is_priced p (reads ∙ e) (record {
           amount = rest;
-          marked = subst (λ (b : Bool). IsMarked b rest text) (sym read.1) (prices_cut total rest text c);
+          marked = subst (λ (b : Bool). IsMarkedPrice b rest text) (sym read.1) (prices_cut total rest text c);
           parts = parts;
           style = style;
           declared = at ∙ ap (λ (n : ℕ). Some n) (sym read.2);

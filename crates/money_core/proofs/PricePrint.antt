@@ -11,7 +11,7 @@ use Rattle.money_core.specs.declared.unit.Unit.{Unit as Commodity}
 use Rattle.money_core.specs.declared.price.Price.{Price}
 use Rattle.money_core.specs.declared.price.Price.TheVariants.{Each, Total}
 use Rattle.money_core.specs.declared.cause.Cause.TheVariants.{Amount, Cost}
-use Rattle.money_core.specs.Class.{has}
+use Rattle.money_core.specs.Class.{is_of_class}
 use Rattle.money_core.specs.Number.{is_number, fits_decimals, fraction_part, quantity}
 use Rattle.money_core.specs.Printed.{printed_number}
 use Rattle.money_core.specs.Amount.{Parts, limit, place_of}
@@ -71,13 +71,13 @@ total_reads styles unit q style ok at l =
     ) refl
 
 -- after `@ ` and `@@ `
-behind_one : (styles : List Style) (rest : List ℕ) → has Blank (slice_index rest 0) ≡ false
+behind_one : (styles : List Style) (rest : List ℕ) → is_of_class Blank (slice_index rest 0) ≡ false
     → price styles (64 ∷ 32 ∷ rest) ≡ price_of_parts styles false (amount_parts rest)
 unfolding price
 behind_one styles rest h =
     ap (λ (xs : List ℕ). price_of_parts styles false (amount_parts xs)) (blanks_skipped (32 ∷ []) rest refl h)
 
-behind_two : (styles : List Style) (rest : List ℕ) → has Blank (slice_index rest 0) ≡ false
+behind_two : (styles : List Style) (rest : List ℕ) → is_of_class Blank (slice_index rest 0) ≡ false
     → price styles (64 ∷ 64 ∷ 32 ∷ rest) ≡ price_of_parts styles true (amount_parts rest)
 unfolding price
 behind_two styles rest h =
@@ -99,7 +99,7 @@ price_text_is styles (Each unit digits decimals) style ok at h =
       whole = refl;
       form = ends.form;
       first = ends.first;
-      last = ap (has Blank) (last_of (64 ∷ 32 ∷ []) rest ends.some) ∙ ends.last;
+      last = ap (is_of_class Blank) (last_of (64 ∷ 32 ∷ []) rest ends.some) ∙ ends.last;
       short = omega (arith, ends.short, facts.few);
     }
 price_text_is styles (Total unit q) style ok at h =
@@ -114,7 +114,7 @@ price_text_is styles (Total unit q) style ok at h =
       whole = refl;
       form = ends.form;
       first = ends.first;
-      last = ap (has Blank) (last_of (64 ∷ 64 ∷ 32 ∷ []) rest ends.some) ∙ ends.last;
+      last = ap (is_of_class Blank) (last_of (64 ∷ 64 ∷ 32 ∷ []) rest ends.some) ∙ ends.last;
       short = omega (arith, ends.short, known.few);
     }
 

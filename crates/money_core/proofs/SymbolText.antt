@@ -8,8 +8,8 @@ use Rattle.std.proofs.lemmas.Grind.{common_steps}
 use Rattle.std.specs.List.{list_all}
 use Rattle.std.specs.Str.{is_utf8}
 use Rattle.money_core.specs.declared.class.Class.TheVariants.{Symbol}
-use Rattle.money_core.specs.Class.{has}
-use Rattle.money_core.specs.Symbol.{is_short, is_bare, is_quoted_byte, no_double, has_no_outer_space, is_symbol}
+use Rattle.money_core.specs.Class.{is_of_class}
+use Rattle.money_core.specs.Symbol.{is_short_symbol, is_bare, is_quoted_byte, no_double, has_no_outer_space, is_symbol}
 use Rattle.money_core.specs.Symbol.{WritesSymbol}
 use Rattle.money_core.specs.NamePart.{is_part_byte, SymbolsAreNameParts}
 use Rattle.money_core.specs.AmountText.{printed_symbol}
@@ -17,7 +17,7 @@ use Rattle.money_core.proofs.ClassLemmas.{all_weaker, symbol_no_space}
 
 -- the parts of the test on symbols in quotes
 pub record SymbolFacts (symbol : List ℕ) : Type 0 where
-  pub short : is_short symbol ≡ true
+  pub short : is_short_symbol symbol ≡ true
   pub utf8 : is_utf8 symbol ≡ true
   pub bytes : list_all is_quoted_byte symbol ≡ true
   pub single : no_double symbol ≡ true
@@ -26,40 +26,40 @@ pub record SymbolFacts (symbol : List ℕ) : Type 0 where
 pub symbol_facts : (symbol : List ℕ) → is_symbol symbol ≡ true → SymbolFacts symbol
 symbol_facts symbol h =
     let four =
-    and_parts (is_short symbol && is_utf8 symbol && list_all is_quoted_byte symbol && no_double symbol) _ h in
-    let three = and_parts (is_short symbol && is_utf8 symbol && list_all is_quoted_byte symbol) _ four.0 in
-    let two = and_parts (is_short symbol && is_utf8 symbol) _ three.0 in
-    let one = and_parts (is_short symbol) _ two.0 in
+    and_parts (is_short_symbol symbol && is_utf8 symbol && list_all is_quoted_byte symbol && no_double symbol) _ h in
+    let three = and_parts (is_short_symbol symbol && is_utf8 symbol && list_all is_quoted_byte symbol) _ four.0 in
+    let two = and_parts (is_short_symbol symbol && is_utf8 symbol) _ three.0 in
+    let one = and_parts (is_short_symbol symbol) _ two.0 in
     record { short = one.0; utf8 = one.1; bytes = two.1; single = three.1; ends = four.1 }
 
 -- the parts of the test on symbols without quotes
 pub record BareFacts (symbol : List ℕ) : Type 0 where
-  pub short : is_short symbol ≡ true
-  pub bytes : list_all (has Symbol) symbol ≡ true
+  pub short : is_short_symbol symbol ≡ true
+  pub bytes : list_all (is_of_class Symbol) symbol ≡ true
   pub utf8 : is_utf8 symbol ≡ true
 
 pub bare_facts : (symbol : List ℕ) → is_bare symbol ≡ true → BareFacts symbol
 bare_facts symbol h =
-    let dense = and_parts (is_short symbol && list_all (has Symbol) symbol) _ h in
-    let one = and_parts (is_short symbol) _ dense.0 in
+    let dense = and_parts (is_short_symbol symbol && list_all (is_of_class Symbol) symbol) _ h in
+    let one = and_parts (is_short_symbol symbol) _ dense.0 in
     record { short = one.0; bytes = one.1; utf8 = (and_parts (is_utf8 symbol) _ dense.1).0 }
 
-pub short_some : (symbol : List ℕ) → is_short symbol ≡ true → 0 < length symbol
+pub short_some : (symbol : List ℕ) → is_short_symbol symbol ≡ true → 0 < length symbol
 short_some symbol h = ltb-true 0 (length symbol) (and_parts (nat_lt 0 (length symbol)) _ h).0
 
 -- a symbol that can stand bare can stand in quotes
-symbol_quoted : (b : ℕ) → has Symbol b ≡ true → is_quoted_byte b ≡ true
+symbol_quoted : (b : ℕ) → is_of_class Symbol b ≡ true → is_quoted_byte b ≡ true
 symbol_quoted b h = grind (arith, common_steps)
 
-bare_no_double : (symbol : List ℕ) → list_all (has Symbol) symbol ≡ true → no_double symbol ≡ true
+bare_no_double : (symbol : List ℕ) → list_all (is_of_class Symbol) symbol ≡ true → no_double symbol ≡ true
 bare_no_double [] h = refl
 bare_no_double (b ∷ symbol) h =
-    let both = and_parts (has Symbol b) _ h in rw (symbol_no_space b both.0) (bare_no_double symbol both.1)
+    let both = and_parts (is_of_class Symbol b) _ h in rw (symbol_no_space b both.0) (bare_no_double symbol both.1)
 
-bare_no_outer : (symbol : List ℕ) → 0 < length symbol → list_all (has Symbol) symbol ≡ true
+bare_no_outer : (symbol : List ℕ) → 0 < length symbol → list_all (is_of_class Symbol) symbol ≡ true
     → has_no_outer_space symbol ≡ true
 bare_no_outer symbol some h =
-    let all = AllPass-from_list_all (has Symbol) symbol h in
+    let all = AllPass-from_list_all (is_of_class Symbol) symbol h in
     and_from _ _ (not_from_false _ (symbol_no_space (slice_index symbol 0) (all 0 0 some)))
     (not_from_false _ (symbol_no_space (slice_index symbol (length symbol - 1))
     (all (length symbol - 1) 0 (omega arith))))
@@ -68,7 +68,7 @@ bare_symbol : (symbol : List ℕ) → is_bare symbol ≡ true → is_symbol symb
 bare_symbol symbol h =
     let f = bare_facts symbol h in
     and_from _ _ (and_from _ _ (and_from _ _ (and_from _ _ f.short f.utf8)
-    (all_weaker (has Symbol) is_quoted_byte symbol symbol_quoted f.bytes)) (bare_no_double symbol f.bytes))
+    (all_weaker (is_of_class Symbol) is_quoted_byte symbol symbol_quoted f.bytes)) (bare_no_double symbol f.bytes))
     (bare_no_outer symbol (short_some symbol f.short) f.bytes)
 
 -- what is written is a symbol

@@ -7,7 +7,7 @@ use Rattle.std.specs.List.{list_all}
 use Rattle.std.specs.Str.{is_utf8, IsAscii}
 use Rattle.std.proofs.lemmas.Str.{IsUtf8-append, IsUtf8-from_ascii, IsUtf8-from_is_utf8, is_utf8-from_IsUtf8}
 use Rattle.money_core.specs.declared.class.Class.TheVariants.{Number}
-use Rattle.money_core.specs.Class.{has}
+use Rattle.money_core.specs.Class.{is_of_class}
 use Rattle.money_core.specs.Symbol.{is_bare, is_symbol}
 use Rattle.money_core.specs.AmountText.{printed_symbol, minus, gap}
 use Rattle.money_core.proofs.ClassLemmas.{all_weaker}
@@ -31,12 +31,12 @@ low_ascii (x ∷ xs) h (suc i) = low_ascii xs (and_parts (is_low x) _ h).1 i
 pub utf8_low : (xs : List ℕ) → list_all is_low xs ≡ true → is_utf8 xs ≡ true
 utf8_low xs h = is_utf8-from_IsUtf8 xs (IsUtf8-from_ascii xs (low_ascii xs h))
 
-pub number_low : (b : ℕ) → has Number b ≡ true → is_low b ≡ true
+pub number_low : (b : ℕ) → is_of_class Number b ≡ true → is_low b ≡ true
 number_low b h = grind (arith, common_steps)
 
 -- the bytes of a number
-pub number_utf8 : (xs : List ℕ) → list_all (has Number) xs ≡ true → is_utf8 xs ≡ true
-number_utf8 xs h = utf8_low xs (all_weaker (has Number) is_low xs number_low h)
+pub number_utf8 : (xs : List ℕ) → list_all (is_of_class Number) xs ≡ true → is_utf8 xs ≡ true
+number_utf8 xs h = utf8_low xs (all_weaker (is_of_class Number) is_low xs number_low h)
 
 pub minus_utf8 : (q : ℤ) → is_utf8 (minus q) ≡ true
 minus_utf8 (pos n) = utf8_low [] refl

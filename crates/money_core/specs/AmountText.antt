@@ -7,7 +7,7 @@ use Rattle.money_core.specs.declared.class.Class.TheVariants.{Symbol, Number}
 use Rattle.money_core.specs.declared.style.Style.{Style}
 use Rattle.money_core.specs.declared.unit.Unit.{Unit as Commodity}
 use Rattle.money_core.specs.Blank.{is_blank}
-use Rattle.money_core.specs.Class.{has}
+use Rattle.money_core.specs.Class.{is_of_class}
 use Rattle.money_core.specs.Symbol.{is_bare, is_quoted_byte, in_quotes}
 use Rattle.money_core.specs.Amount.{limit}
 use Rattle.money_core.specs.Printed.{printed_number}
@@ -47,7 +47,7 @@ printed_in styles unit q = printed_of (slice_get styles unit.0) q
 
 -- a byte of a printed amount outside quotes
 abbrev pub is_amount_byte : ℕ → Bool
-is_amount_byte b = has Symbol b || has Number b || (b == 45) || (b == 32)
+is_amount_byte b = is_of_class Symbol b || is_of_class Number b || (b == 45) || (b == 32)
 
 -- Quotes are closed, and each byte is one of an amount, inside them or outside.
 abbrev pub is_amount_text : Bool → List ℕ → Bool

@@ -7,7 +7,7 @@ use Rattle.money_core.specs.Blank.{is_blank}
 
 -- whether a byte is of a class: a symbol without quotes has letters, `$` and what is not ASCII; a number has digits and
 -- marks
-abbrev pub has : Class → ℕ → Bool
-has Blank b = is_blank b
-has Symbol b = is_ascii_alphabetic b || (b == 36) || nat_le 128 b
-has Number b = is_ascii_digit b || (b == 46) || (b == 44)
+abbrev pub is_of_class : Class → ℕ → Bool
+is_of_class Blank b = is_blank b
+is_of_class Symbol b = is_ascii_alphabetic b || (b == 36) || nat_le 128 b
+is_of_class Number b = is_ascii_digit b || (b == 46) || (b == 44)

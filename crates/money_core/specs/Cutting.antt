@@ -7,13 +7,13 @@ use Rattle.money_core.specs.declared.class.Class.{Class}
 use Rattle.money_core.specs.declared.class.Class.TheVariants.{Blank, Symbol, Number}
 use Rattle.money_core.specs.declared.amount.Sign.{Sign}
 use Rattle.money_core.specs.declared.amount.Sign.TheVariants.{Absent, Plus, Minus}
-use Rattle.money_core.specs.Class.{has}
+use Rattle.money_core.specs.Class.{is_of_class}
 use Rattle.money_core.specs.Symbol.{is_bare, is_symbol}
 use Rattle.money_core.specs.Amount.{Parts}
 
 -- where the longest front of that class ends
 abbrev pub end_of : Class → List ℕ → ℕ
-end_of class text = position_or_len (λ b. not (has class b)) text
+end_of class text = position_or_len (λ b. not (is_of_class class b)) text
 
 -- the text after the blanks at its front
 abbrev pub skip_blanks : List ℕ → List ℕ
@@ -41,8 +41,8 @@ unfoldable pub cut_symbol : List ℕ → Option Cut
 cut_symbol text = if slice_index text 0 == 34 then cut_quoted (drop 1 text) else cut_bare text
 
 -- the symbol that a whole text is, with its quotes or without
-unfoldable pub symbol_of : List ℕ → Option (List ℕ)
-symbol_of text = option_and_then (λ cut. if length cut.rest == 0 then Some cut.symbol else None) (cut_symbol text)
+unfoldable pub symbol_in_text : List ℕ → Option (List ℕ)
+symbol_in_text text = option_and_then (λ cut. if length cut.rest == 0 then Some cut.symbol else None) (cut_symbol text)
 
 -- the sign that a byte is
 abbrev pub sign_of : ℕ → Sign
@@ -102,6 +102,6 @@ right_parts sign text = right_symbol sign (take (end_of Number text) text) (drop
 -- the parts of an amount: an optional sign, and a symbol and a number on either side of each other
 unfoldable pub amount_parts : List ℕ → Option Parts
 amount_parts text =
-    if has Symbol (slice_index (unsigned text) 0) || (slice_index (unsigned text) 0 == 34)
+    if is_of_class Symbol (slice_index (unsigned text) 0) || (slice_index (unsigned text) 0 == 34)
     then left_parts (sign_of (slice_index text 0)) (unsigned text)
     else right_parts (sign_of (slice_index text 0)) (unsigned text)

@@ -5,7 +5,7 @@ use Rattle.money_core.specs.declared.unit.Unit.{Unit as Commodity}
 use Rattle.money_core.specs.declared.unit.Declared.{Declared}
 use Rattle.money_core.specs.declared.cause.Cause.{Cause}
 use Rattle.money_core.specs.declared.price.Price.{Price}
-use Rattle.money_core.specs.Style.{unit_of, after}
+use Rattle.money_core.specs.Style.{unit_of, styles_after}
 use Rattle.money_core.specs.Reading.{amount}
 use Rattle.money_core.specs.AmountText.{IsDeclared, printed_in}
 use Rattle.money_core.specs.Price.{is_price}
@@ -31,7 +31,7 @@ pub record StaysUnderMore (styles more : List Style) : Type 0 where
 
 -- a declaration appends to the styles, whatever it is answered
 abbrev pub Appends : List Style → Style → Result Declared Cause → Type 0
-Appends styles style answer = (more : List Style) × (after styles style answer ≡ styles ++ more)
+Appends styles style answer = (more : List Style) × (styles_after styles style answer ≡ styles ++ more)
 
 -- declared styles only grow, and what was there stays
 pub record StylesGrow : Type 0 where

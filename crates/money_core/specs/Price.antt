@@ -66,7 +66,7 @@ price_mark false = 64 ∷ []
 price_mark true = 64 ∷ 64 ∷ []
 
 -- the text is `@` or `@@`, blanks, and that amount
-pub record IsMarked (total : Bool) (amount text : List ℕ) : Type 0 where
+pub record IsMarkedPrice (total : Bool) (amount text : List ℕ) : Type 0 where
   pub blanks : List ℕ
   pub between : IsBlanks blanks
   pub whole : text ≡ price_mark total ++ (blanks ++ amount)
@@ -74,7 +74,7 @@ pub record IsMarked (total : Bool) (amount text : List ℕ) : Type 0 where
 -- the text is that price: the amount after its `@` or `@@` is of a declared commodity, and its value is the price's
 pub record WritesPrice (styles : List Style) (text : List ℕ) (p : Price) : Type 0 where
   pub amount : List ℕ
-  pub marked : IsMarked (is_total p) amount text
+  pub marked : IsMarkedPrice (is_total p) amount text
   pub parts : Parts
   pub style : Style
   pub declared : place_of styles parts.symbol ≡ Some (cost_unit p).0
@@ -84,20 +84,21 @@ pub record WritesPrice (styles : List Style) (text : List ℕ) (p : Price) : Typ
 
 -- the text has not the form of a price
 abbrev pub HasNoPriceForm : List Style → List ℕ → Type 0
-HasNoPriceForm styles text = (total : Bool) (amount : List ℕ) → IsMarked total amount text → HasNoForm styles amount
+HasNoPriceForm styles text =
+    (total : Bool) (amount : List ℕ) → IsMarkedPrice total amount text → HasNoForm styles amount
 
 -- the text has the form of a price, of a symbol that is not declared
 pub record NamesUndeclaredCost (styles : List Style) (text : List ℕ) : Type 0 where
   pub total : Bool
   pub amount : List ℕ
-  pub marked : IsMarked total amount text
+  pub marked : IsMarkedPrice total amount text
   pub undeclared : NamesUndeclared styles amount
 
 -- the text has the form of a price of a declared commodity, and its value is no cost
 pub record HasNoCost (styles : List Style) (text : List ℕ) : Type 0 where
   pub total : Bool
   pub amount : List ℕ
-  pub marked : IsMarked total amount text
+  pub marked : IsMarkedPrice total amount text
   pub parts : Parts
   pub place : ℕ
   pub style : Style

@@ -92,7 +92,7 @@ unfoldable pub declared : List Style → Style → Result Declared Cause
 declared styles style = declared_at styles style (place_of styles style.symbol)
 
 -- the styles after it
-abbrev pub after : List Style → Style → Result Declared Cause → List Style
-after styles style (Ok (New unit)) = styles ++ style ∷ []
-after styles style (Ok (Same unit)) = styles
-after styles style (Err cause) = styles
+abbrev pub styles_after : List Style → Style → Result Declared Cause → List Style
+styles_after styles style (Ok (New unit)) = styles ++ style ∷ []
+styles_after styles style (Ok (Same unit)) = styles
+styles_after styles style (Err cause) = styles

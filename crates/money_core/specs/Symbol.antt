@@ -6,15 +6,15 @@ use Rattle.std.specs.Char.{is_whitespace}
 use Rattle.std.specs.List.{list_all, list_any}
 use Rattle.std.specs.Str.{chars, is_utf8}
 use Rattle.money_core.specs.declared.class.Class.TheVariants.{Symbol}
-use Rattle.money_core.specs.Class.{has}
+use Rattle.money_core.specs.Class.{is_of_class}
 
 -- the greatest length of a symbol, in bytes
 abbrev pub longest_symbol : ℕ
 longest_symbol = 24
 
 -- some bytes, and not too many
-abbrev pub is_short : List ℕ → Bool
-is_short symbol = nat_lt 0 (length symbol) && nat_le (length symbol) longest_symbol
+abbrev pub is_short_symbol : List ℕ → Bool
+is_short_symbol symbol = nat_lt 0 (length symbol) && nat_le (length symbol) longest_symbol
 
 -- a text of which no character is white space
 abbrev pub is_dense : List ℕ → Bool
@@ -22,7 +22,7 @@ is_dense bytes = is_utf8 bytes && not (list_any is_whitespace (chars bytes))
 
 -- a symbol that can stand without quotes
 abbrev pub is_bare : List ℕ → Bool
-is_bare symbol = is_short symbol && list_all (has Symbol) symbol && is_dense symbol
+is_bare symbol = is_short_symbol symbol && list_all (is_of_class Symbol) symbol && is_dense symbol
 
 -- a byte that may stand in quotes: no ASCII control character, no `"`, `:` or `;`
 abbrev pub is_quoted_byte : ℕ → Bool
@@ -40,7 +40,8 @@ has_no_outer_space symbol = not (slice_index symbol 0 == 32) && not (slice_index
 -- a symbol: one that can stand in quotes
 abbrev pub is_symbol : List ℕ → Bool
 is_symbol symbol =
-    is_short symbol && is_utf8 symbol && list_all is_quoted_byte symbol && no_double symbol && has_no_outer_space symbol
+    is_short_symbol symbol && is_utf8 symbol && list_all is_quoted_byte symbol && no_double symbol
+    && has_no_outer_space symbol
 
 -- the symbol in quotes
 abbrev pub in_quotes : List ℕ → List ℕ

@@ -2,7 +2,7 @@
 
 ghost use Rattle.std.specs.Prelude.{◌≡◌};
 ghost use Rattle.money_core.specs.declared.cause.Cause.TheVariants.{OutOfMemory as MemoryIsOut};
-ghost use Rattle.money_core.specs.Cause.{number_of, name_of};
+ghost use Rattle.money_core.specs.Cause.{cause_number, cause_name};
 
 use std::alloc::{AllocError, AllocFailed};
 
@@ -106,7 +106,7 @@ pub enum Cause {
 impl Cause {
     /// The refusal's number.
     pub fn nr(self) -> u8
-        ensures { result ≡ number_of self }
+        ensures { result ≡ cause_number self }
     {
         match self {
             Cause::Utf8 => 1,
@@ -160,7 +160,7 @@ impl Cause {
 
     /// The refusal's name.
     pub fn name(self) -> &'static str
-        ensures { result.now ≡ name_of self }
+        ensures { result.now ≡ cause_name self }
     {
         match self {
             Cause::Utf8 => "Utf8",

@@ -1,7 +1,7 @@
 //! The classes of bytes in an amount.
 
 ghost use Rattle.std.specs.Prelude.{◌≡◌, ◌==◌, ◌≤◌, not, drop, length, position, slice_index};
-ghost use Rattle.money_core.specs.Class.{has};
+ghost use Rattle.money_core.specs.Class.{is_of_class};
 ghost use Rattle.money_core.specs.Cutting.{end_of, skip_blanks};
 
 use crate::bytes::behind;
@@ -20,7 +20,7 @@ pub enum Class {
 impl Class {
     /// Whether the byte is of the class.
     pub fn has(self, byte: u8) -> bool
-        ensures { result ≡ has self byte }
+        ensures { result ≡ is_of_class self byte }
     {
         match self {
             Class::Blank => byte == b' ' || byte == b'\t',
@@ -32,7 +32,7 @@ impl Class {
 
 /// Where the first byte stands that is not of the class.
 fn find_other(text: &[u8], class: Class) -> Option<usize>
-    ensures { result ≡ position (λ b. not (has class b)) text.now }
+    ensures { result ≡ position (λ b. not (is_of_class class b)) text.now }
 {
     text.iter().position(|b| !class.has(*b))
 }

@@ -4,7 +4,7 @@ ghost use Rattle.std.specs.Prelude.{◌≡◌, ℕ, List, [], ◌∷◌, ◌++�
 ghost use Rattle.std.specs.Option.{option_copied, option_map};
 ghost use Rattle.std.specs.Str.{bytes_eq};
 ghost use Rattle.money_core.specs.Amount.{place_of};
-ghost use Rattle.money_core.specs.Style.{is_style, style_eq, declared_with, declared, after, AreStyles, unit_of};
+ghost use Rattle.money_core.specs.Style.{is_style, style_eq, declared_with, declared, styles_after, AreStyles, unit_of};
 
 use crate::cause::Cause;
 use crate::style::Style;
@@ -130,7 +130,7 @@ impl Styles {
     pub fn declare(&mut self, style: Style) -> Result<Declared, Cause>
         requires { is_style style ≡ true }
         ensures answer { (result ≡ declared self.old style) ⊎ (result ≡ Err Cause.OutOfMemory) }
-        ensures kept { self.new ≡ after self.old style result }
+        ensures kept { self.new ≡ styles_after self.old style result }
     {
         match self.judge(&style) {
             Ok(Declared::New(unit)) => {

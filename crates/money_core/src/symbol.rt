@@ -7,10 +7,11 @@ ghost use Rattle.std.specs.Char.{is_whitespace};
 ghost use Rattle.std.specs.Str.{chars, is_utf8};
 ghost use Rattle.std.specs.Option.{option_map};
 ghost use Rattle.money_core.specs.declared.class.Class.TheVariants.{Symbol as OfSymbol};
-ghost use Rattle.money_core.specs.Class.{has};
-ghost use Rattle.money_core.specs.Symbol.{is_short, is_dense, is_bare, is_quoted_byte, no_double, has_no_outer_space};
+ghost use Rattle.money_core.specs.Class.{is_of_class};
+ghost use Rattle.money_core.specs.Symbol.{is_short_symbol, is_dense, is_bare, is_quoted_byte, no_double};
+ghost use Rattle.money_core.specs.Symbol.{has_no_outer_space};
 ghost use Rattle.money_core.specs.Symbol.{is_symbol, WritesSymbol};
-ghost use Rattle.money_core.specs.Cutting.{cut_quoted, cut_bare, cut_symbol, symbol_of};
+ghost use Rattle.money_core.specs.Cutting.{cut_quoted, cut_bare, cut_symbol, symbol_in_text};
 ghost use Rattle.money_core.specs.NamePart.{SymbolsAreNameParts};
 ghost use Rattle.money_core.specs.Views.{cut_view};
 
@@ -23,7 +24,7 @@ pub const MAX_SYMBOL_LEN: usize = 24;
 
 /// Whether it has some bytes, and not too many.
 fn is_short(symbol: &[u8]) -> bool
-    ensures { result ≡ is_short symbol.now }
+    ensures { result ≡ is_short_symbol symbol.now }
 {
     0 < symbol.len() && symbol.len() <= MAX_SYMBOL_LEN
 }
@@ -57,7 +58,7 @@ fn is_dense(bytes: &[u8]) -> bool
 
 /// Whether each byte may stand in a symbol without quotes.
 fn has_symbol_bytes(symbol: &[u8]) -> bool
-    ensures { result ≡ list_all (has OfSymbol) symbol.now }
+    ensures { result ≡ list_all (is_of_class OfSymbol) symbol.now }
 {
     symbol.iter().all(|b| Class::Symbol.has(*b))
 }
@@ -169,9 +170,9 @@ pub fn cut_symbol(text: &[u8]) -> Option<Cut<'_>>
 }
 
 /// The symbol that the whole text is.
-#[tactic(auto, unfolding(crate::specs::Cutting::symbol_of))]
+#[tactic(auto, unfolding(crate::specs::Cutting::symbol_in_text))]
 fn symbol_of(text: &[u8]) -> Option<&[u8]>
-    ensures { option_map (λ s. s.now) result ≡ symbol_of text.now }
+    ensures { option_map (λ s. s.now) result ≡ symbol_in_text text.now }
 {
     let cut = cut_symbol(text)?;
     if cut.rest.is_empty() {
@@ -186,7 +187,7 @@ pub fn read_symbol(text: &str) -> Option<&str>
     ensures reads { (symbol : List ℕ) → (option_map (λ s. s.now) result ≡ Some symbol) ↔ WritesSymbol symbol text.now }
 
     // The same by a function, for laws.
-    ensures answer { option_map (λ s. s.now) result ≡ symbol_of text.now }
+    ensures answer { option_map (λ s. s.now) result ≡ symbol_in_text text.now }
 {
     match symbol_of(text.as_bytes()) {
         Some(symbol) => Some(text_of(symbol)),

@@ -42,16 +42,16 @@ cause_of_silence NoMemory = OutOfMemory
 cause_of_silence _ = ReadFault
 
 -- what bytes say that came for a report, or for a command
-abbrev pub SaysTo : Bool → List ℕ → Spoken → Type 0
-SaysTo true came said = SaysToReport came said.text said.refused
-SaysTo false came said = SaysToCommand came said.text said.refused
+abbrev pub SaysToEither : Bool → List ℕ → Spoken → Type 0
+SaysToEither true came said = SaysToReport came said.text said.refused
+SaysToEither false came said = SaysToCommand came said.text said.refused
 
 -- What is said to a request: 40, and nothing was sent; 45, where no reply came that says something; or what the bytes
 -- say that came.
 abbrev pub SaysFrom : Spelled → Spoken → Type 0
 SaysFrom request said =
     IsRefusedBy OutOfMemory said
-    ⊎ (IsRefusedBy ReadFault said ⊎ ((came : List ℕ) × SaysTo (is_report request.request) came said))
+    ⊎ (IsRefusedBy ReadFault said ⊎ ((came : List ℕ) × SaysToEither (is_report request.request) came said))
 
 -- The same of `import` with the bytes of its journal. What is sent of them is a text: they, if they are one.
 abbrev pub SaysToBytesAt : List ℕ → Bool → List ℕ → Spoken → Type 0

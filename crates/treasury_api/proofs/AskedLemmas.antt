@@ -39,7 +39,7 @@ use Rattle.treasury_requests.specs.declared.request.Request.TheVariants.{Commodi
 use Rattle.treasury_requests.specs.declared.request.Request.TheVariants.{Accounts as ForAccounts}
 use Rattle.treasury_requests.specs.declared.request.Request.TheVariants.{Transfers as ForTransfers}
 use Rattle.treasury_api.specs.declared.asking.Asked.TheVariants.{Command}
-use Rattle.treasury_requests.specs.Request.{text_at, day_at, is_form, dispatch_at, receive_at, written, part_at}
+use Rattle.treasury_requests.specs.Request.{text_at, day_at, is_form, dispatch_at, receive_at, written_part, part_at}
 use Rattle.treasury_requests.specs.Request.{register_at}
 use Rattle.treasury_requests.specs.Request.{tagged_at, one_chosen, close_at, chosen_at, both_at, report_form, list_form}
 use Rattle.treasury_requests.specs.Request.{close_form}
@@ -143,29 +143,29 @@ part_days d request h =
     option_and_then (λ day.
     option_and_then (λ account.
     option_and_then (λ key.
-    option_map (λ amount. ForReceive id branch day account (Some (written key amount)))
+    option_map (λ amount. ForReceive id branch day account (Some (written_part key amount)))
     (text_at (codes "amount") d)) (text_at (codes "part") d)) (text_at (codes "account") d))
     (day_at (codes "day") d)) (text_at (codes "branch") d)) (text_at (codes "id") d) request h in
     let branch = by_texts (λ branch.
     option_and_then (λ day.
     option_and_then (λ account.
     option_and_then (λ key.
-    option_map (λ amount. ForReceive id.0 branch day account (Some (written key amount)))
+    option_map (λ amount. ForReceive id.0 branch day account (Some (written_part key amount)))
     (text_at (codes "amount") d)) (text_at (codes "part") d)) (text_at (codes "account") d))
     (day_at (codes "day") d)) (text_at (codes "branch") d) request id.1 in
     let day = by_days (codes "day") d
     (λ day. option_and_then (λ account.
     option_and_then (λ key.
-    option_map (λ amount. ForReceive id.0 branch.0 day account (Some (written key amount)))
+    option_map (λ amount. ForReceive id.0 branch.0 day account (Some (written_part key amount)))
     (text_at (codes "amount") d)) (text_at (codes "part") d)) (text_at (codes "account") d)) request branch.1 in
     let account = by_texts (λ account.
     option_and_then (λ key.
-    option_map (λ amount. ForReceive id.0 branch.0 day.0 account (Some (written key amount)))
+    option_map (λ amount. ForReceive id.0 branch.0 day.0 account (Some (written_part key amount)))
     (text_at (codes "amount") d)) (text_at (codes "part") d)) (text_at (codes "account") d) request day.1.0 in
     let key = by_texts (λ key. option_map (λ amount.
-    ForReceive id.0 branch.0 day.0 account.0 (Some (written key amount))) (text_at (codes "amount") d))
+    ForReceive id.0 branch.0 day.0 account.0 (Some (written_part key amount))) (text_at (codes "amount") d))
     (text_at (codes "part") d) request account.1 in
-    let amount = by_text (λ amount. ForReceive id.0 branch.0 day.0 account.0 (Some (written key.0 amount)))
+    let amount = by_text (λ amount. ForReceive id.0 branch.0 day.0 account.0 (Some (written_part key.0 amount)))
     (text_at (codes "amount") d) request key.1 in
     subst HasDayNumbers amount.1 day.1.1
 

@@ -15,7 +15,7 @@ use Rattle.treasury_core.specs.declared.command.Command.{Command as AnyCommand}
 use Rattle.treasury_core.specs.Fits.{Fits}
 use Rattle.treasury_core.specs.Step.{reply as command_reply, delta, Decides}
 use Rattle.treasury_core.specs.Run.{Replies as Steps}
-use Rattle.treasury_store.specs.Treasury.{Treasury, IsTreasuryOf, IsListed, is_failure}
+use Rattle.treasury_store.specs.Treasury.{Treasury, IsTreasuryOf, IsListedRefusal, is_failure}
 use Rattle.treasury_store.proofs.OwnRefusalLemmas.{reply_not_failed, listed_reply}
 use Rattle.http_request.specs.declared.call.Form.{Form}
 use Rattle.treasury_api.specs.declared.asking.Asked.TheVariants.{DryRun}
@@ -94,7 +94,7 @@ refusal_steps : (T : Type 0) (f : Federation) (c : AnyCommand) (e : Refusal) (be
 refusal_steps T f c e before written (r, (steps, (is, same))) = subst (Steps f c) is steps
 
 pub foreseen_listed : {T : Type 0} (f : Federation) (c : AnyCommand) (result : Result T Refusal)
-    (before written : List ℕ) → IsForeseen f c result before written → IfErr result IsListed
+    (before written : List ℕ) → IsForeseen f c result before written → IfErr result IsListedRefusal
 foreseen_listed f c (Ok x) before written is = tt
 foreseen_listed {T = T} f c (Err e) before written is =
     listed_reply f c (Err e) (inl (refusal_steps T f c e before written is))

@@ -14,7 +14,7 @@ use Rattle.money_core.specs.declared.style.Style.{Style}
 use Rattle.money_core.specs.declared.cause.Cause.{Cause}
 use Rattle.money_core.specs.declared.cause.Cause.TheVariants as is
 use Rattle.money_core.specs.declared.cause.Cause.TheVariants.{OutOfMemory, Store as Failed, Request as NoRequest}
-use Rattle.money_core.specs.Cause.{number_of, name_of}
+use Rattle.money_core.specs.Cause.{cause_number, cause_name}
 use Rattle.book_core.specs.declared.refusal.Refusal.{Refusal}
 use Rattle.book_core.specs.declared.refusal.Refusal.TheVariants.{Plain, Text, ClaimFailed}
 use Rattle.treasury_state.specs.Federation.{Federation}
@@ -180,13 +180,13 @@ plain_own c because cause text body said (inr (long, other, same)) =
 
 module _ {S : Type 0} (g : Ghosts S) (new : Treasury S) (f : Federation) (status : ℕ) (text body : List ℕ)
     (because cause : Cause) (of : IsTreasuryOf g new f) (object : IsJsonRefusal text because cause body)
-    (code : status ≡ status_of_number (number_of cause)) where
+    (code : status ≡ status_of_number (cause_number cause)) where
   abbrev pub Refuses : Refusal → Type 0
   Refuses refusal = IsRefusedAs (λ (x : Federation) (asked : Result Asked Refusal) (r : Result Answer Refusal).
       IsBodyIn form.Json body x asked r) (λ (r : Result Answer Refusal). status ≡ status_of r) f refusal
 
   coded : (refusal : Refusal) → cause ≡ cause_of refusal → status ≡ status_of (Err refusal)
-  coded refusal is = code ∙ ap (λ (c : Cause). status_of_number (number_of c)) is
+  coded refusal is = code ∙ ap (λ (c : Cause). status_of_number (cause_number c)) is
 
   -- by its own object
   by_own : (refusal : Refusal) → text ≡ answer_text f.styles (Err refusal) → because ≡ cause_of refusal
@@ -243,7 +243,7 @@ plain_cause new refusal c because cause text body told object is =
 pub open_but_json : {S T : Type 0} (g : Ghosts S) (old new : Treasury S) (result : Result T Refusal)
     (refusal : Refusal) (because cause : Cause) (status : ℕ) (text body : List ℕ) → result ≡ Err refusal
     → IsToldBy new refusal because text → IsJsonRefusal text because cause body
-    → status ≡ status_of_number (number_of cause)
+    → status ≡ status_of_number (cause_number cause)
     → IsTrue (state g old.store.conn).is_open → (old.store.failed ≡ false → FailsWith result new.store.failed)
     → (IsTrue old.store.failed → new ≡ old) → IsOpenBut g new.store.conn result
     → IsTrue (state g new.store.conn).is_open ⊎ ((status ≡ 503) × IsTrue new.store.failed)
@@ -257,7 +257,7 @@ open_but_json {S = S} g old new result refusal because cause status text body is
     either true was =
         inl (subst (λ (t : Treasury S). IsTrue (state g t.store.conn).is_open) (sym (closed was)) is_open)
     either false was = inr (
-      code ∙ ap (λ (c : Cause). status_of_number (number_of c))
+      code ∙ ap (λ (c : Cause). status_of_number (cause_number c))
           (plain_cause new refusal Failed because cause text body told object
           (refusal_is result refusal (Plain Failed) is failed)),
       (fails was).1 failed,

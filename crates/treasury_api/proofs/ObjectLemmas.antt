@@ -8,7 +8,7 @@ use Rattle.std.proofs.lemmas.Str.{IsUtf8-nil, is_utf8-from_IsUtf8}
 use Rattle.std.proofs.Common.{Result, Ok, Err, OnOk}
 use Rattle.money_core.specs.declared.cause.Cause.{Cause}
 use Rattle.money_core.specs.declared.cause.Cause.TheVariants as is
-use Rattle.money_core.specs.Cause.{number_of, name_of}
+use Rattle.money_core.specs.Cause.{cause_number, cause_name}
 use Rattle.json_text.specs.JsonText.{escaped, quoted, object_text, rows_text, lines_of}
 use Rattle.json_text.proofs.LengthLemmas.{length-quoted}
 use Rattle.json_text.specs.JsonText as held
@@ -21,7 +21,7 @@ use Rattle.treasury_api.specs.WebServing.{done_json, refusal_json, refused_json,
 -- ---- the parts of a refusal
 
 -- the name of a cause
-name_short : (c : Cause) → length (name_of c) ≤ 20
+name_short : (c : Cause) → length (cause_name c) ≤ 20
 name_short is.Utf8 = omega arith
 name_short is.TooLong = omega arith
 name_short is.Date = omega arith
@@ -150,7 +150,7 @@ refused_parts line nr name sentence =
     (codes ",\"name\":\"") (flat_map escaped name ++ codes "\"") (codes ",\"sentence\":\"")
     (flat_map escaped sentence ++ codes "\"") (codes ",\"told\":[],\"notes\":[]") (codes "}") (codes "\n"))
 
-number_short : (c : Cause) → length (decimal (number_of c)) ≤ 2
+number_short : (c : Cause) → length (decimal (cause_number c)) ≤ 2
 unfolding digits
 number_short is.Utf8 = omega arith
 number_short is.TooLong = omega arith
@@ -219,14 +219,14 @@ pub refused_short : (line : List ℕ) (cause : Cause) (told : List ℕ) → leng
 refused_short line cause told short none =
     subst (λ (t : List ℕ). length (refused_json line cause t) ≤ 2_048) (sym none)
     (subst (λ (t : List ℕ). length t ≤ 2_048)
-    (sym (refused_parts line (decimal (number_of cause)) (name_of cause) (sentence_of cause)))
+    (sym (refused_parts line (decimal (cause_number cause)) (cause_name cause) (sentence_of cause)))
     (let e = length_of_object_parts (codes "{\"answer\":") (quoted line) (codes ",\"number\":")
-    (quoted (decimal (number_of cause)))
-    (codes ",\"name\":") (quoted (name_of cause)) (codes ",\"sentence\":") (quoted (sentence_of cause))
+    (quoted (decimal (cause_number cause)))
+    (codes ",\"name\":") (quoted (cause_name cause)) (codes ",\"sentence\":") (quoted (sentence_of cause))
     (codes ",\"told\":[],\"notes\":[]}\n") in
     let l = length-quoted line in
-    let n = length-quoted (decimal (number_of cause)) in
-    let m = length-quoted (name_of cause) in
+    let n = length-quoted (decimal (cause_number cause)) in
+    let m = length-quoted (cause_name cause) in
     let s = length-quoted (sentence_of cause) in
     let ns = number_short cause in
     let ms = name_short cause in
@@ -253,16 +253,16 @@ report_object f report old rows new is said =
 
 -- ---- the object of a refusal, by its cause
 
-pub refused_as : (line nr name said told : List ℕ) (cause : Cause) → nr ≡ decimal (number_of cause)
-    → name ≡ name_of cause → said ≡ sentence_of cause
+pub refused_as : (line nr name said told : List ℕ) (cause : Cause) → nr ≡ decimal (cause_number cause)
+    → name ≡ cause_name cause → said ≡ sentence_of cause
     → refusal_json line nr name said told ≡ refused_json line cause told
 refused_as line nr name said told cause number named sentence =
     ap (λ (t : List ℕ). refusal_json line t name said told) number
-    ∙ (ap (λ (t : List ℕ). refusal_json line (decimal (number_of cause)) t said told) named
-    ∙ ap (λ (t : List ℕ). refusal_json line (decimal (number_of cause)) (name_of cause) t told) sentence)
+    ∙ (ap (λ (t : List ℕ). refusal_json line (decimal (cause_number cause)) t said told) named
+    ∙ ap (λ (t : List ℕ). refusal_json line (decimal (cause_number cause)) (cause_name cause) t told) sentence)
 
-pub refused_fits : (line nr name said told : List ℕ) (cause : Cause) (old cap : ℕ) → nr ≡ decimal (number_of cause)
-    → name ≡ name_of cause → said ≡ sentence_of cause → length line ≤ 63 → told ≡ [] → old + 2_048 ≤ cap
+pub refused_fits : (line nr name said told : List ℕ) (cause : Cause) (old cap : ℕ) → nr ≡ decimal (cause_number cause)
+    → name ≡ cause_name cause → said ≡ sentence_of cause → length line ≤ 63 → told ≡ [] → old + 2_048 ≤ cap
     → old + length (refusal_json line nr name said told) ≤ cap
 refused_fits line nr name said told cause old cap number named sentence short none fits =
     let e = ap length (refused_as line nr name said told cause number named sentence) in

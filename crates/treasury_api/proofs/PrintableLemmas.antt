@@ -33,7 +33,7 @@ use Rattle.journal_format.specs.declared.txn.Txn.{Txn}
 use Rattle.journal_format.specs.declared.txn.Located.{Located}
 use Rattle.journal_format.specs.Pieces.{posting_limit}
 use Rattle.journal_format.specs.Printable.{IsPrintable}
-use Rattle.journal_balance.specs.Legs.{legs_of}
+use Rattle.journal_balance.specs.Legs.{balanced_entry}
 use Rattle.journal_balance.proofs.EntryLemmas.{entry_day}
 use Rattle.journal_balance.proofs.DeclaredLemmas.{entry_declared, entry_asserts}
 use Rattle.treasury_state.specs.declared.record.Record.{Record}
@@ -54,7 +54,7 @@ use Rattle.treasury_core.specs.declared.command.Dispatch.{Dispatch}
 use Rattle.treasury_core.specs.declared.command.Receive.{Receive}
 use Rattle.treasury_core.specs.declared.command.Close.{Close}
 use Rattle.treasury_core.specs.declared.choice.Choice.{Choice}
-use Rattle.treasury_core.specs.Choice.{is_selected, target_in, listed, list_text, choice_comments, list_limit}
+use Rattle.treasury_core.specs.Choice.{is_selected, target_in, listed_names, list_text, choice_comments, list_limit}
 use Rattle.treasury_core.specs.Choice.{holds_transit, choice_refusal}
 use Rattle.treasury_core.specs.Closing.{closing_record, closing_answer, closing_in}
 use Rattle.treasury_core.specs.Step.{unless, commodity_reply, is_lock, goes_back, fault_on, unbalanced, records_in_file}
@@ -73,7 +73,7 @@ use Rattle.treasury_api.specs.Answer.{IsPrintableFailure, IsPrintableRefusal}
 pub record IsOfTransaction (styles : List Style) (e : Entry) : Type 0 where
   pub txn : Txn
   pub printable : IsPrintable styles txn
-  pub legs : legs_of styles txn ≡ Ok e
+  pub legs : balanced_entry styles txn ≡ Ok e
 
 -- what an entry of a transaction names
 day_number : (styles : List Style) (e : Entry) → IsOfTransaction styles e → IsDayNumber e.day
@@ -153,8 +153,8 @@ unbalanced_printable : (styles : List Style) (file : List Located) (e : Refusal)
     → IsPrintableRefusal styles e
 unbalanced_printable styles [] e h = absurd cc
 unbalanced_printable styles (x ∷ xs) e h =
-    elim (first_or (fault_on x.line (legs_of styles x.txn)) (unbalanced styles xs) e h) [
-      | inl here ↦ fault_printable styles x.line (legs_of styles x.txn) e here
+    elim (first_or (fault_on x.line (balanced_entry styles x.txn)) (unbalanced styles xs) e h) [
+      | inl here ↦ fault_printable styles x.line (balanced_entry styles x.txn) e here
       | inr later ↦ unbalanced_printable styles xs e later
     ]
 
@@ -343,12 +343,12 @@ closing_printable f name day c (Some t) e good days allowed closes h =
 choice_printable : (styles : List Style) (c : Choice) (e : Refusal) → choice_refusal c ≡ Some e
     → IsPrintableRefusal styles e
 choice_printable styles c e h =
-    kept_or styles (list_all is_account_text (listed c.accounts)) _ _ e h
+    kept_or styles (list_all is_account_text (listed_names c.accounts)) _ _ e h
     (λ formed k1. kept_or styles (is_account_text (target_in c.into)) _ _ e k1 (λ target k2.
-    printable_past_plain styles (list_any holds_transit (listed c.accounts)) _ _ e k2
+    printable_past_plain styles (list_any holds_transit (listed_names c.accounts)) _ _ e k2
     (λ k3. printable_past_plain styles (is_reserved (target_in c.into)) _ _ e k3 (λ k4.
     printable_past_plain styles (is_selected c.accounts (target_in c.into)) _ _ e k4
-    (λ k5. printable_past_plain styles (nat_lt list_limit (length (list_text (listed c.accounts)))) _ _ e k5
+    (λ k5. printable_past_plain styles (nat_lt list_limit (length (list_text (listed_names c.accounts)))) _ _ e k5
     (λ k6. absurd cc))))))
 
 close_printable : (f : Federation) (x : Close) (o : Option Refusal) (e : Refusal) → IsGoodState f → IsDayNumber x.day

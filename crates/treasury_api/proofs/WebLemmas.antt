@@ -13,7 +13,7 @@ use Rattle.http_request.specs.Call.{IsStopped}
 use Rattle.money_core.specs.declared.cause.Cause.{Cause}
 use Rattle.money_core.specs.declared.cause.Cause.TheVariants.{OutOfMemory, ReadFault, WriteFault}
 use Rattle.money_core.specs.declared.cause.Cause.TheVariants.{Store as Failed}
-use Rattle.money_core.specs.Cause.{number_of}
+use Rattle.money_core.specs.Cause.{cause_number}
 use Rattle.book_core.specs.declared.refusal.Refusal.{Refusal}
 use Rattle.book_core.specs.declared.refusal.Refusal.TheVariants.{Plain, Text, ClaimFailed}
 use Rattle.treasury_state.specs.Federation.{Federation}
@@ -44,39 +44,49 @@ use Rattle.treasury_api.proofs.OneRequestLemmas.{IsToldAs, IsRunTo, request_run,
 -- the line of a refusal, and its cause, on the treasury that is of the state
 pub told_as : {S : Type 0} (g : Ghosts S) (new : Treasury S) (f : Federation) (refusal : Refusal) (cause : Cause)
     (status : ℕ) (text : List ℕ) → IsTreasuryOf g new f → IsToldBy new refusal cause text
-    → status ≡ status_of_number (number_of cause)
+    → status ≡ status_of_number (cause_number cause)
     → IsToldAs f refusal text (λ (reply : Result Answer Refusal). status ≡ status_of reply)
 told_as g new f (Plain because) cause status text of (said, is) code =
-    inl (said ∙ plain_line f.styles because, code ∙ ap (λ (c : Cause). status_of_number (number_of c)) is)
+    inl (said ∙ plain_line f.styles because, code ∙ ap (λ (c : Cause). status_of_number (cause_number c)) is)
 told_as g new f (Text fault) cause status text of (s, (held, inl (memory, is))) code =
-    inr (memory ∙ plain_line f.styles OutOfMemory, refl, code ∙ ap (λ (c : Cause). status_of_number (number_of c)) is)
+    inr (
+      memory ∙ plain_line f.styles OutOfMemory,
+      refl,
+      code
+          ∙ ap (λ (c : Cause). status_of_number (cause_number c)) is,
+    )
 told_as g new f (Text fault) cause status text of (s, (held, inr (said, is))) code =
     inl (
       said ∙ ap (λ (x : Federation). answer_text x.styles (Err (Text fault))) (state_is g new s f of held),
-      code ∙ ap (λ (c : Cause). status_of_number (number_of c)) is,
+      code ∙ ap (λ (c : Cause). status_of_number (cause_number c)) is,
     )
 told_as g new f (ClaimFailed failure) cause status text of (s, (held, inl (memory, is))) code =
-    inr (memory ∙ plain_line f.styles OutOfMemory, refl, code ∙ ap (λ (c : Cause). status_of_number (number_of c)) is)
+    inr (
+      memory ∙ plain_line f.styles OutOfMemory,
+      refl,
+      code
+          ∙ ap (λ (c : Cause). status_of_number (cause_number c)) is,
+    )
 told_as g new f (ClaimFailed failure) cause status text of (s, (held, inr (said, is))) code =
     inl (
       said ∙ ap (λ (x : Federation). answer_text x.styles (Err (ClaimFailed failure))) (state_is g new s f of held),
-      code ∙ ap (λ (c : Cause). status_of_number (number_of c)) is,
+      code ∙ ap (λ (c : Cause). status_of_number (cause_number c)) is,
     )
 
 -- ---- whether the database is open after a refusal
 
 -- the status of a plain refusal
 plain_status : {S : Type 0} (new : Treasury S) (refusal : Refusal) (because cause : Cause) (status : ℕ) (text : List ℕ)
-    → IsToldBy new refusal cause text → status ≡ status_of_number (number_of cause) → refusal ≡ Plain because
-    → status ≡ status_of_number (number_of because)
+    → IsToldBy new refusal cause text → status ≡ status_of_number (cause_number cause) → refusal ≡ Plain because
+    → status ≡ status_of_number (cause_number because)
 plain_status new refusal because cause status text told code is =
-    code ∙ ap (λ (c : Cause). status_of_number (number_of c))
+    code ∙ ap (λ (c : Cause). status_of_number (cause_number c))
     (subst (λ (r : Refusal). IsToldBy new r cause text) is told).1
 
 -- by 41 it is 503, and the store has failed
 pub open_but_failed : {S T : Type 0} (g : Ghosts S) (old new : Treasury S) (result : Result T Refusal)
     (refusal : Refusal) (cause : Cause) (status : ℕ) (text : List ℕ) → result ≡ Err refusal
-    → IsToldBy new refusal cause text → status ≡ status_of_number (number_of cause)
+    → IsToldBy new refusal cause text → status ≡ status_of_number (cause_number cause)
     → IsTrue (state g old.store.conn).is_open → (old.store.failed ≡ false → FailsWith result new.store.failed)
     → (IsTrue old.store.failed → new ≡ old) → IsOpenBut g new.store.conn result
     → IsTrue (state g new.store.conn).is_open ⊎ ((status ≡ 503) × IsTrue new.store.failed)

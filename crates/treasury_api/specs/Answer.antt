@@ -3,7 +3,7 @@ use Rattle.std.specs.Prelude.{ℕ, List, [], ◌++◌, ⊤, Result, Ok, Err, cod
 use Rattle.money_core.specs.declared.style.Style.{Style}
 use Rattle.money_core.specs.declared.cause.Cause.{Cause}
 use Rattle.money_core.specs.declared.cause.Cause.TheVariants.{OutOfMemory, ClaimFailed as ClaimCause}
-use Rattle.money_core.specs.Cause.{number_of, name_of}
+use Rattle.money_core.specs.Cause.{cause_number, cause_name}
 use Rattle.money_core.specs.AmountText.{printed_in, IsDeclared}
 use Rattle.journal_lines.specs.Date.{printed_date, IsDayNumber}
 use Rattle.book_core.specs.declared.place.Place.{Place}
@@ -15,7 +15,7 @@ use Rattle.treasury_core.specs.declared.command.Answer.TheVariants.{Done, Entere
 
 -- the number and the name of a refusal
 abbrev pub refused_text : Cause → List ℕ
-refused_text cause = codes "refused " ++ decimal (number_of cause) ++ codes " " ++ name_of cause
+refused_text cause = codes "refused " ++ decimal (cause_number cause) ++ codes " " ++ cause_name cause
 
 -- the line of the journal that has the fault; want of memory is no fault of a line
 abbrev pub at_line_text : Cause → ℕ → List ℕ

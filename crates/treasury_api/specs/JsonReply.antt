@@ -4,7 +4,7 @@ use Rattle.std.specs.Prelude.{◌≡◌, ℕ, true, List, [], ◌∷◌, ◌++�
 use Rattle.std.specs.Str.{is_utf8}
 use Rattle.money_core.specs.declared.style.Style.{Style}
 use Rattle.money_core.specs.declared.cause.Cause.{Cause}
-use Rattle.money_core.specs.Cause.{number_of, name_of}
+use Rattle.money_core.specs.Cause.{cause_number, cause_name}
 use Rattle.book_core.specs.declared.refusal.Refusal.{Refusal}
 use Rattle.treasury_core.specs.declared.command.Answer.{Answer}
 use Rattle.treasury_told.specs.Sentence.{sentence_of}
@@ -20,7 +20,7 @@ json_line_text styles (Err refusal) = refusal_text styles refusal
 -- the number and the name of a refusal, and its sentence
 abbrev pub cause_members : Cause → List (List ℕ × Held)
 cause_members cause =
-    (codes "number", string (decimal (number_of cause))) ∷ (codes "name", string (name_of cause))
+    (codes "number", string (decimal (cause_number cause))) ∷ (codes "name", string (cause_name cause))
     ∷ (codes "sentence", string (sentence_of cause)) ∷ []
 
 -- those of a reply, where it is refused

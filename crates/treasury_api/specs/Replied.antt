@@ -10,7 +10,7 @@ use Rattle.book_core.specs.declared.refusal.Refusal.TheVariants.{Plain}
 use Rattle.treasury_state.specs.Federation.{Federation}
 use Rattle.treasury_core.specs.declared.command.Answer.{Answer}
 use Rattle.treasury_tables.specs.Kept.{ShutsByFault, IsFaithful}
-use Rattle.treasury_store.specs.Treasury.{Treasury, IsTreasuryOf, IsListed, is_failure}
+use Rattle.treasury_store.specs.Treasury.{Treasury, IsTreasuryOf, IsListedRefusal, is_failure}
 use Rattle.treasury_requests.specs.declared.request.Spelled.{Spelled}
 use Rattle.treasury_api.specs.declared.asking.Asked.{Asked}
 use Rattle.treasury_api.specs.declared.asking.Asked.TheVariants.{Command, DryRun, Report}
@@ -75,7 +75,7 @@ IsPrintableIn t refusal = (s : Federation) × ((t.held ≡ Some s) × IsPrintabl
 -- What is said of a refusal whatever the disk returned, and whatever the tables are: on a treasury on which no call has
 -- failed it is one of those that are listed, and a call fails just where it is 41; and it can be printed.
 pub record RefusesInAnyCase {S T : Type 0} (old new : Treasury S) (r : Result T Refusal) : Type 0 where
-  pub listed : old.store.failed ≡ false → IfErr r IsListed
+  pub listed : old.store.failed ≡ false → IfErr r IsListedRefusal
   pub fails : old.store.failed ≡ false → FailsWith r new.store.failed
   pub printable : IfErr r (IsPrintableIn new)
 

@@ -38,9 +38,9 @@ FailsLineBy WriteFault Step w0 w1 start requests end = HalfServed Step w0 w1 sta
 FailsLineBy _ Step w0 w1 start requests end = ⊥
 
 -- the requests are served, or not, by the result
-abbrev pub Serves : {T S : Type 0} → Result T Cause → (S → List ℕ → List ℕ → S → Type 0)
+abbrev pub ServesRequests : {T S : Type 0} → Result T Cause → (S → List ℕ → List ℕ → S → Type 0)
     → Option (List ℕ) → Option (List ℕ) → S → List (List ℕ) → S → Type 0
-Serves result Step w0 w1 start requests end = MatchResult result
+ServesRequests result Step w0 w1 start requests end = MatchResult result
     (λ _. Served Step w0 w1 start requests end)
     (λ cause. FailsLineBy cause Step w0 w1 start requests end)
 

@@ -14,7 +14,7 @@ use Rattle.http_request.specs.declared.call.Call.TheVariants.{Register}
 use Rattle.http_request.specs.declared.call.Form.{Form}
 use Rattle.http_request.specs.declared.call.Form.TheVariants as form
 use Rattle.http_request.specs.declared.call.Received.{Received}
-use Rattle.http_request.specs.Call.{Reads, IsStopped}
+use Rattle.http_request.specs.Call.{ReadsCall, IsStopped}
 use Rattle.money_core.specs.declared.cause.Cause.{Cause}
 use Rattle.money_core.specs.declared.cause.Cause.TheVariants.{OutOfMemory, ReadFault, WriteFault, Request as NoRequest}
 use Rattle.money_core.specs.declared.cause.Cause.TheVariants.{Store as Failed}
@@ -125,7 +125,7 @@ pub record AnswersOn {S : Type 0} (g : Ghosts S) (old : Treasury S) (form : Form
 pub record AnswersRead {S : Type 0} (g : Ghosts S) (r0 r1 : Option (List ℕ)) (old : Treasury S) (form : Form)
     (status : ℕ) (body : List ℕ) (new : Treasury S) : Type 0 where
   pub received : Received
-  pub reads : Reads r0 r1 received
+  pub reads : ReadsCall r0 r1 received
   pub answers : AnswersOn g old received.form received.call status body new
   pub form_is : form ≡ form_of_reply received.form status
 

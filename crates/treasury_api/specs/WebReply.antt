@@ -6,7 +6,7 @@ use Rattle.http_request.specs.declared.call.Form.{Form}
 use Rattle.http_request.specs.declared.call.Form.TheVariants as form
 use Rattle.money_core.specs.declared.cause.Cause.{Cause}
 use Rattle.money_core.specs.declared.cause.Cause.TheVariants.{ClaimFailed as ClaimCause}
-use Rattle.money_core.specs.Cause.{number_of}
+use Rattle.money_core.specs.Cause.{cause_number}
 use Rattle.book_core.specs.declared.refusal.Refusal.{Refusal}
 use Rattle.book_core.specs.declared.refusal.Refusal.TheVariants.{Plain, Text, ClaimFailed}
 use Rattle.treasury_core.specs.declared.command.Answer.{Answer}
@@ -29,7 +29,7 @@ cause_of (ClaimFailed failure) = ClaimCause
 -- the status of a reply: what is done, repeated or reported is 200
 abbrev pub status_of : Result Answer Refusal → ℕ
 status_of (Ok answer) = 200
-status_of (Err refusal) = status_of_number (number_of (cause_of refusal))
+status_of (Err refusal) = status_of_number (cause_number (cause_of refusal))
 
 -- the phrase of a status
 abbrev pub reason_of : ℕ → List ℕ

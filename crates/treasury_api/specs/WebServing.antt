@@ -3,7 +3,7 @@ use Rattle.std.specs.Prelude.{◌≡◌, ◌<◌, ◌-◌, ◌⊎◌, ⊤, ℕ, 
 use Rattle.std.specs.Prelude.{Err, IsTrue, codes, decimal, if◌then◌else◌}
 use Rattle.std.specs.Str.{is_utf8}
 use Rattle.json_text.specs.JsonText.{string, strings, object_text, lines_of}
-use Rattle.money_core.specs.Cause.{number_of, name_of}
+use Rattle.money_core.specs.Cause.{cause_number, cause_name}
 use Rattle.treasury_told.specs.Sentence.{sentence_of}
 use Rattle.money_core.specs.declared.style.Style.{Style}
 use Rattle.money_core.specs.declared.cause.Cause.{Cause}
@@ -107,7 +107,7 @@ refusal_json line nr name sentence told =
 -- the same by its line, its cause and what is told
 abbrev pub refused_json : List ℕ → Cause → List ℕ → List ℕ
 refused_json line cause told =
-    refusal_json line (decimal (number_of cause)) (name_of cause) (sentence_of cause) told
+    refusal_json line (decimal (cause_number cause)) (cause_name cause) (sentence_of cause) told
 
 -- something in UTF-8 is noted, or told
 abbrev pub IsJsonDone : List ℕ → List ℕ → Type 0

@@ -12,7 +12,7 @@ use Rattle.std.specs.Char.{is_ascii_digit}
 use Rattle.money_core.proofs.RoundTrip.{all_digits_decimal}
 use Rattle.serde_json.specs.Data.{Data}
 use Rattle.serde_json.specs.Read.{read}
-use Rattle.treasury_client.specs.Reply.{IsOnLine, IsReply, length_text, reply_text, value_in}
+use Rattle.treasury_client.specs.Reply.{IsOnLine, IsReply, length_text, http_reply_text, value_in}
 use Rattle.treasury_client.specs.Parts.{EndsLine}
 
 first_of : (x y : ℕ) (xs ys : List ℕ) → x ∷ xs ≡ y ∷ ys → x ≡ y
@@ -185,7 +185,7 @@ length_told text digits rest body at of is =
 
 pub reply_told : (bytes status rest kind more body : List ℕ) → bytes ≡ codes "HTTP/1.1 " ++ (status ++ rest)
     → rest ≡ codes "\r\nContent-Type: " ++ (kind ++ more) → more ≡ length_text body
-    → bytes ≡ reply_text status kind body
+    → bytes ≡ http_reply_text status kind body
 reply_told bytes status rest kind more body at of is =
     at ∙ (ap (λ (r : List ℕ). codes "HTTP/1.1 " ++ (status ++ r)) of
     ∙ ap (λ (m : List ℕ). codes "HTTP/1.1 " ++ (status ++ (codes "\r\nContent-Type: " ++ (kind ++ m)))) is)

@@ -23,44 +23,45 @@ with_optional key (Some text) ms = with_text key text ms
 abbrev pub with_word : List ℕ → Members → Members
 with_word word ms = with_text (codes "do") word ms
 
-abbrev pub with_branch : List ℕ → Members → Members
-with_branch name ms = with_text (codes "branch") name ms
+abbrev pub with_branch_key : List ℕ → Members → Members
+with_branch_key name ms = with_text (codes "branch") name ms
 
-abbrev pub with_day : Day → Members → Members
-with_day day ms = with_text (codes "day") (printed_date day) ms
+abbrev pub with_day_key : Day → Members → Members
+with_day_key day ms = with_text (codes "day") (printed_date day) ms
 
-abbrev pub with_account : List ℕ → Members → Members
-with_account name ms = with_text (codes "account") name ms
+abbrev pub with_account_key : List ℕ → Members → Members
+with_account_key name ms = with_text (codes "account") name ms
 
-abbrev pub with_part : Option WrittenPart → Members → Members
-with_part None ms = ms
-with_part (Some part) ms = with_text (codes "amount") part.amount (with_text (codes "part") part.key ms)
+abbrev pub with_part_keys : Option WrittenPart → Members → Members
+with_part_keys None ms = ms
+with_part_keys (Some part) ms = with_text (codes "amount") part.amount (with_text (codes "part") part.key ms)
 
 -- with the word and the values of a request
 abbrev pub with_request : Request → Members → Members
 with_request (Branch name) ms = with_text (codes "name") name (with_word (codes "branch") ms)
 with_request (Commodity sample) ms = with_text (codes "sample") sample (with_word (codes "commodity") ms)
 with_request (Import branch journal) ms =
-    with_text (codes "journal") journal (with_branch branch (with_word (codes "import") ms))
+    with_text (codes "journal") journal (with_branch_key branch (with_word (codes "import") ms))
 with_request (Dispatch id from to day amount account) ms =
-    with_account account (with_text (codes "amount") amount (with_day day (with_text (codes "to") to
+    with_account_key account (with_text (codes "amount") amount (with_day_key day (with_text (codes "to") to
     (with_text (codes "from") from (with_text (codes "id") id (with_word (codes "dispatch") ms))))))
 with_request (Receive id branch day account part) ms =
-    with_part part (with_account account (with_day day (with_branch branch (with_text (codes "id") id
+    with_part_keys part (with_account_key account (with_day_key day (with_branch_key branch (with_text (codes "id") id
     (with_word (codes "receive") ms)))))
-with_request (Lock branch day) ms = with_day day (with_branch branch (with_word (codes "lock") ms))
+with_request (Lock branch day) ms = with_day_key day (with_branch_key branch (with_word (codes "lock") ms))
 with_request (Close branch day accounts into) ms =
     with_optional (codes "into") into (with_optional (codes "accounts") accounts
-    (with_day day (with_branch branch (with_word (codes "close") ms))))
-with_request (Balance branch day) ms = with_day day (with_branch branch (with_word (codes "balance") ms))
+    (with_day_key day (with_branch_key branch (with_word (codes "close") ms))))
+with_request (Balance branch day) ms = with_day_key day (with_branch_key branch (with_word (codes "balance") ms))
 with_request (Register branch account tag) ms =
-    with_optional (codes "tag") tag (with_account account (with_branch branch (with_word (codes "register") ms)))
-with_request (Transit day) ms = with_day day (with_word (codes "transit") ms)
-with_request (Journal branch) ms = with_branch branch (with_word (codes "journal") ms)
+    with_optional (codes "tag") tag (with_account_key account
+    (with_branch_key branch (with_word (codes "register") ms)))
+with_request (Transit day) ms = with_day_key day (with_word (codes "transit") ms)
+with_request (Journal branch) ms = with_branch_key branch (with_word (codes "journal") ms)
 with_request Branches ms = with_word (codes "branches") ms
 with_request Commodities ms = with_word (codes "commodities") ms
-with_request (Accounts branch) ms = with_branch branch (with_word (codes "accounts") ms)
-with_request (Transfers day) ms = with_day day (with_word (codes "transfers") ms)
+with_request (Accounts branch) ms = with_branch_key branch (with_word (codes "accounts") ms)
+with_request (Transfers day) ms = with_day_key day (with_word (codes "transfers") ms)
 
 -- with the key of a dry run, where it is one
 abbrev pub with_dry_run : Bool → Members → Members

@@ -18,27 +18,27 @@ length_text body =
     codes "\r\nContent-Length: " ++ (decimal (length body) ++ (codes "\r\nConnection: close\r\n\r\n" ++ body))
 
 -- a reply: its status, the type of its body, and that
-abbrev pub reply_text : List ℕ → List ℕ → List ℕ → List ℕ
-reply_text status kind body =
+abbrev pub http_reply_text : List ℕ → List ℕ → List ℕ → List ℕ
+http_reply_text status kind body =
     codes "HTTP/1.1 " ++ (status ++ (codes "\r\nContent-Type: " ++ (kind ++ length_text body)))
 
 -- the bytes are a whole reply of a treasury, with nothing after it
 pub record IsReply (bytes status kind body : List ℕ) : Type 0 where
-  pub written : bytes ≡ reply_text status kind body
+  pub written : bytes ≡ http_reply_text status kind body
   pub status_line : IsOnLine status
   pub kind_line : IsOnLine kind
   pub fits : length body < 2 ^ 64
 
 -- the status of what is done, repeated or reported
-abbrev pub done : List ℕ
-done = codes "200 OK"
+abbrev pub status_of_done : List ℕ
+status_of_done = codes "200 OK"
 
 -- the types of a body
-abbrev pub text : List ℕ
-text = codes "text/plain; charset=utf-8"
+abbrev pub text_type : List ℕ
+text_type = codes "text/plain; charset=utf-8"
 
-abbrev pub json : List ℕ
-json = codes "application/json"
+abbrev pub json_type : List ℕ
+json_type = codes "application/json"
 
 -- the value that a body in JSON is
 unfoldable pub value_in : List ℕ → Option Data
@@ -56,8 +56,8 @@ answer_in body = option_and_then answer_at (value_in body)
 -- whether that is a refusal.
 abbrev pub SaysToCommand : List ℕ → List ℕ → Bool → Type 0
 SaysToCommand came said refused =
-    (status kind body : List ℕ) × IsReply came status kind body × (bytes_eq kind json ≡ true)
-    × (answer_in body ≡ Some said) × (refused ≡ not (bytes_eq status done))
+    (status kind body : List ℕ) × IsReply came status kind body × (bytes_eq kind json_type ≡ true)
+    × (answer_in body ≡ Some said) × (refused ≡ not (bytes_eq status status_of_done))
 
 -- the text begins as the line of a refusal
 abbrev pub IsRefusalLine : List ℕ → Type 0
@@ -67,5 +67,5 @@ IsRefusalLine line = (rest : List ℕ) × (line ≡ codes "refused " ++ rest)
 -- as its text does then.
 abbrev pub SaysToReport : List ℕ → List ℕ → Bool → Type 0
 SaysToReport came said refused =
-    (status kind body : List ℕ) × IsReply came status kind body × (bytes_eq kind text ≡ true)
-    × (said ≡ body) × (refused ≡ not (bytes_eq status done)) × (refused ≡ true → IsRefusalLine body)
+    (status kind body : List ℕ) × IsReply came status kind body × (bytes_eq kind text_type ≡ true)
+    × (said ≡ body) × (refused ≡ not (bytes_eq status status_of_done)) × (refused ≡ true → IsRefusalLine body)

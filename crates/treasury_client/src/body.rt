@@ -7,8 +7,8 @@ ghost use Rattle.journal_lines.specs.Date.{IsDayNumber};
 ghost use Rattle.treasury_requests.specs.Request.{spelled, is_report, HasDayNumbers};
 ghost use Rattle.treasury_requests.specs.declared.request.Request.TheVariants.{Dispatch, Receive, Close, Register};
 ghost use Rattle.treasury_client.specs.Sending.{IsSendable, HasText};
-ghost use Rattle.treasury_client.specs.Parts.{with_text, with_day, with_optional, with_part, with_request};
-ghost use Rattle.treasury_client.specs.Parts.{with_word, with_branch, with_dry_run};
+ghost use Rattle.treasury_client.specs.Parts.{with_text, with_day_key, with_optional, with_part_keys, with_request};
+ghost use Rattle.treasury_client.specs.Parts.{with_word, with_branch_key, with_dry_run};
 
 use journal_lines::print_date;
 use money_core::{Cause, Day, Text};
@@ -51,7 +51,7 @@ fn put_optional(
 fn put_day(members: &mut Members, alloc: Global, day: Day) -> Result<(), Cause>
     requires { IsDayNumber day }
     ensures ok { OnOk result (members_view members.new.entries
-        ≡ with_day day (members_view members.old.entries)) }
+        ≡ with_day_key day (members_view members.old.entries)) }
     ensures memory { IfErr result (λ cause. cause ≡ Cause.OutOfMemory) }
 {
     let mut date = Vec::new(alloc);
@@ -78,7 +78,7 @@ fn put_journal(members: &mut Members, alloc: Global, journal: &Bytes) -> Result<
 /// Puts the key and the amount of a part, if there is one.
 fn put_part(members: &mut Members, alloc: Global, part: &Option<WrittenPart>) -> Result<(), Cause>
     ensures ok { OnOk result (members_view members.new.entries
-        ≡ with_part part.now (members_view members.old.entries)) }
+        ≡ with_part_keys part.now (members_view members.old.entries)) }
     ensures memory { IfErr result (λ cause. cause ≡ Cause.OutOfMemory) }
 {
     match part {
@@ -181,7 +181,7 @@ fn put_register(
 /// Puts the word, and the branch.
 fn put_branch(members: &mut Members, alloc: Global, word: &str, branch: &Text) -> Result<(), Cause>
     ensures ok { OnOk result (members_view members.new.entries
-        ≡ with_branch branch.now (with_word word.now (members_view members.old.entries))) }
+        ≡ with_branch_key branch.now (with_word word.now (members_view members.old.entries))) }
     ensures memory { IfErr result (λ cause. cause ≡ Cause.OutOfMemory) }
 {
     put_text(members, alloc, "do", word)?;

@@ -4,7 +4,7 @@ ghost use Rattle.std.specs.Prelude.{◌≡◌, ◌≢◌, ◌⊎◌, ◌++◌, �
 ghost use Rattle.std.specs.Prelude.{IfOk, IfErr};
 ghost use Rattle.std.specs.Str.{bytes_eq};
 ghost use Rattle.serde_json.specs.View.{view};
-ghost use Rattle.treasury_client.specs.Reply.{done, json, answer_at, answer_in, value_in};
+ghost use Rattle.treasury_client.specs.Reply.{status_of_done, json_type, answer_at, answer_in, value_in};
 ghost use Rattle.treasury_client.specs.Reply.{SaysToCommand, SaysToReport};
 ghost use Rattle.treasury_client.specs.Heard.{SaysText};
 
@@ -89,10 +89,10 @@ fn answer_of(alloc: Global, value: &Value) -> Result<Vec<u8>, Cause>
 /// is none that says something, and 40.
 fn heard_of(alloc: Global, reply: &Reply<'_>, journal: Option<&[u8]>) -> Result<Heard, Cause>
     ensures answer { IfOk result (λ heard. answer_in reply.now.body.now ≡ Some heard.answer.items) }
-    ensures json { IfOk result (λ heard. bytes_eq reply.now.kind.now json ≡ true) }
-    ensures refusal { IfOk result (λ heard. heard.is_refused ≡ not (bytes_eq reply.now.status.now done)) }
+    ensures json { IfOk result (λ heard. bytes_eq reply.now.kind.now json_type ≡ true) }
+    ensures refusal { IfOk result (λ heard. heard.is_refused ≡ not (bytes_eq reply.now.status.now status_of_done)) }
     ensures refused { result ≡ Err Cause.ReadFault
-        → (bytes_eq reply.now.kind.now json ≡ false) ⊎ (answer_in reply.now.body.now ≡ None) }
+        → (bytes_eq reply.now.kind.now json_type ≡ false) ⊎ (answer_in reply.now.body.now ≡ None) }
     ensures causes { IfErr result (λ cause. (cause ≡ Cause.ReadFault) ⊎ (cause ≡ Cause.OutOfMemory)) }
 {
     if !reply.is_json() {
@@ -152,7 +152,7 @@ fn told(alloc: Global, text: &[u8], is_refused: bool) -> Result<Heard, Cause>
 /// What the text of a reply says: its lines, or the line of a refusal. 45 where it is neither, and 40.
 fn heard_text(alloc: Global, reply: &Reply<'_>) -> Result<Heard, Cause>
     ensures said { IfOk result (SaysText reply.now.status.now reply.now.body.now) }
-    ensures strange { result ≡ Err Cause.ReadFault → (bytes_eq reply.now.status.now done ≡ false)
+    ensures strange { result ≡ Err Cause.ReadFault → (bytes_eq reply.now.status.now status_of_done ≡ false)
         × ((rest : List ℕ) → reply.now.body.now ≢ codes "refused " ++ rest) }
     ensures causes { IfErr result (λ cause. (cause ≡ Cause.ReadFault) ⊎ (cause ≡ Cause.OutOfMemory)) }
 {

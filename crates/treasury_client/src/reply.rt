@@ -3,7 +3,7 @@
 ghost use Rattle.std.specs.Prelude.{◌≡◌, ◌≢◌, ◌<◌, ◌^◌, ◌↔◌, ◌++◌, ℕ, List, None, IfSome, MatchOption, IsTrue};
 ghost use Rattle.std.specs.Prelude.{length, decimal};
 ghost use Rattle.std.specs.Str.{bytes_eq};
-ghost use Rattle.treasury_client.specs.Reply.{IsReply, IsOnLine, length_text, done, text, json};
+ghost use Rattle.treasury_client.specs.Reply.{IsReply, IsOnLine, length_text, status_of_done, text_type, json_type};
 ghost use Rattle.treasury_client.specs.Parts.{EndsLine};
 
 use itoa::Buffer;
@@ -20,21 +20,21 @@ pub struct Reply<'a> {
 impl Reply<'_> {
     /// Whether it is done, repeated or reported.
     pub fn is_done(&self) -> bool
-        ensures { result ≡ bytes_eq self.now.status.now done }
+        ensures { result ≡ bytes_eq self.now.status.now status_of_done }
     {
         self.status == b"200 OK".as_slice()
     }
 
     /// Whether its body is a text.
     pub fn is_text(&self) -> bool
-        ensures { result ≡ bytes_eq self.now.kind.now text }
+        ensures { result ≡ bytes_eq self.now.kind.now text_type }
     {
         self.kind == b"text/plain; charset=utf-8".as_slice()
     }
 
     /// Whether its body is JSON.
     pub fn is_json(&self) -> bool
-        ensures { result ≡ bytes_eq self.now.kind.now json }
+        ensures { result ≡ bytes_eq self.now.kind.now json_type }
     {
         self.kind == b"application/json".as_slice()
     }

@@ -18,7 +18,7 @@ use Rattle.money_core.proofs.Utf8Lemmas.{utf8_joined, utf8_low}
 use Rattle.book_core.specs.Account.{IsInside, is_inside}
 use Rattle.book_core.specs.declared.refusal.Refusal.{Refusal}
 use Rattle.book_core.proofs.AccountLemmas.{is_inside_decides}
-use Rattle.journal_lines.specs.AccountName.{is_name_byte, is_gap, has_gap, is_account, transit}
+use Rattle.journal_lines.specs.AccountName.{is_account_name_byte, is_gap, has_gap, is_account, transit}
 use Rattle.journal_lines.specs.Blank.{is_trimmed}
 use Rattle.journal_lines.specs.Printed.{is_clean}
 use Rattle.journal_lines.proofs.AccountLemmas.{account_whole}
@@ -28,19 +28,19 @@ use Rattle.treasury_state.specs.Transfer.{is_account_text, is_reserved}
 use Rattle.treasury_state.specs.Fair.{HasNoColon}
 use Rattle.treasury_core.specs.declared.choice.Choice.{Choice}
 use Rattle.treasury_core.specs.Choice.{is_revenue_or_expense, retained_earnings, is_among, is_selected, target_in}
-use Rattle.treasury_core.specs.Choice.{listed, list_text, accounts_comment, into_comment, choice_comments}
+use Rattle.treasury_core.specs.Choice.{listed_names, list_text, accounts_comment, into_comment, choice_comments}
 use Rattle.treasury_core.specs.Choice.{holds_transit, choice_refusal}
 
 -- ---- what is not refused
 
 -- each test of a choice has passed
 pub record IsChoice (c : Choice) : Type 0 where
-  pub formed : list_all is_account_text (listed c.accounts) ≡ true
+  pub formed : list_all is_account_text (listed_names c.accounts) ≡ true
   pub target : is_account_text (target_in c.into) ≡ true
-  pub off_transit : list_any holds_transit (listed c.accounts) ≡ false
+  pub off_transit : list_any holds_transit (listed_names c.accounts) ≡ false
   pub clear : is_reserved (target_in c.into) ≡ false
   pub apart : is_selected c.accounts (target_in c.into) ≡ false
-  pub short : length (list_text (listed c.accounts)) ≤ 880
+  pub short : length (list_text (listed_names c.accounts)) ≤ 880
 
 true_from_not_false : (b : Bool) → not b ≡ false → b ≡ true
 true_from_not_false true e = refl
@@ -149,7 +149,7 @@ not_transit : (a : List ℕ) → is_revenue_or_expense a ≡ true → IsInside t
 not_transit a h (inl e) = let k : false ≡ true = ap is_revenue_or_expense (sym e) ∙ h in cc
 not_transit a h (inr p) = let k : false ≡ true = ap is_revenue_or_expense (sym p.1) ∙ h in cc
 
-chosen_apart : (o : Option (List (List ℕ))) (account : List ℕ) → list_any holds_transit (listed o) ≡ false
+chosen_apart : (o : Option (List (List ℕ))) (account : List ℕ) → list_any holds_transit (listed_names o) ≡ false
     → is_selected o account ≡ true → is_reserved account ≡ true → ⊥
 chosen_apart None account off h on = not_transit account h ((is_inside_decides transit account).0 on)
 chosen_apart (Some names) account off h on = among_apart names account off h on
@@ -183,16 +183,16 @@ solid_joined [] y ys e = e
 solid_joined (b ∷ []) y ys e = e
 solid_joined (b ∷ (next ∷ rest)) y ys e = solid_joined (next ∷ rest) y ys e
 
-solid_byte : (b : ℕ) → is_name_byte b ≡ true → (b == 32) ≡ false → is_blank b ≡ false
+solid_byte : (b : ℕ) → is_account_name_byte b ≡ true → (b == 32) ≡ false → is_blank b ≡ false
 solid_byte b h e = grind (arith, common_steps)
 
 -- a well-formed name has none
-solid_name : (name : List ℕ) → list_all is_name_byte name ≡ true → has_gap name ≡ false → ends_solid name ≡ true
+solid_name : (name : List ℕ) → list_all is_account_name_byte name ≡ true → has_gap name ≡ false → ends_solid name ≡ true
 solid_name [] h g = refl
 solid_name (b ∷ []) h g =
-    not_from_false _ (solid_byte b (and_parts (is_name_byte b) true h).0 (or_parts (b == 32) false g).0)
+    not_from_false _ (solid_byte b (and_parts (is_account_name_byte b) true h).0 (or_parts (b == 32) false g).0)
 solid_name (b ∷ (next ∷ rest)) h g =
-    solid_name (next ∷ rest) (and_parts (is_name_byte b) (list_all is_name_byte (next ∷ rest)) h).1
+    solid_name (next ∷ rest) (and_parts (is_account_name_byte b) (list_all is_account_name_byte (next ∷ rest)) h).1
     (or_parts (is_gap b (next ∷ rest)) (has_gap (next ∷ rest)) g).1
 
 no_gaps : (name : List ℕ) → is_account name ≡ true → has_gap name ≡ false
@@ -280,7 +280,7 @@ into_note account h =
     colon_first (x ∷ xs) e = e
 
 comments_in : (accounts : Option (List (List ℕ))) (into : Option (List ℕ))
-    → list_all is_account_text (listed accounts) ≡ true → length (list_text (listed accounts)) ≤ 880
+    → list_all is_account_text (listed_names accounts) ≡ true → length (list_text (listed_names accounts)) ≤ 880
     → is_account_text (target_in into) ≡ true
     → list_all is_note (accounts_comment accounts ++ into_comment into) ≡ true
 comments_in None None h few t = refl

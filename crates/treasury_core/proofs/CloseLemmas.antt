@@ -13,7 +13,7 @@ use Rattle.book_core.specs.GoodBook.{IsFit, verdict}
 use Rattle.journal_lines.specs.Date.{IsDayNumber}
 use Rattle.journal_format.specs.declared.txn.Txn.{Txn}
 use Rattle.journal_format.specs.Pieces.{posting_limit}
-use Rattle.journal_balance.specs.Legs.{legs_of}
+use Rattle.journal_balance.specs.Legs.{balanced_entry}
 use Rattle.journal_balance.specs.Plain.{written_entry}
 use Rattle.treasury_state.specs.declared.record.Record.{Record}
 use Rattle.treasury_state.specs.declared.delta.Addition.TheVariants as add
@@ -121,9 +121,10 @@ closing_refused f x held e r is here chosen (inr k) = inl (same_refusal e (Plain
 -- ---- its record
 
 pub told_legs : (f : Federation) (x : Close) (t : Txn) (styles : List Style) → styles ≡ f.styles → IsGoodState f
-    → IsTold f x t → legs_of styles t ≡ Ok (written_entry t)
+    → IsTold f x t → balanced_entry styles t ≡ Ok (written_entry t)
 told_legs f x t styles same good told =
-    ap (λ (ss : List Style). legs_of ss t) same ∙ closing_legs (is_selected x.choice.accounts) (target_in x.choice.into)
+    ap (λ (ss : List Style). balanced_entry ss t) same
+    ∙ closing_legs (is_selected x.choice.accounts) (target_in x.choice.into)
     f x.branch x.day t (is_closing_of f x.branch x.day x.choice t good told.chosen told.closes)
 
 pub told_fit : (f : Federation) (x : Close) (t : Txn) (r : Record) → IsGoodState f → IsDayNumber x.day → IsTold f x t

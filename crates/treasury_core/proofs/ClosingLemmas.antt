@@ -33,7 +33,7 @@ use Rattle.book_core.proofs.SumLemmas.{total-append, moved-append}
 use Rattle.book_core.proofs.AccountOrder.{book_accounts_are}
 use Rattle.journal_format.specs.declared.posting.Posting.{Posting}
 use Rattle.journal_format.specs.declared.txn.Txn.{Txn}
-use Rattle.journal_balance.specs.Legs.{commodities, declared}
+use Rattle.journal_balance.specs.Legs.{commodities, declared_commodities}
 use Rattle.journal_balance.specs.Plain.{written_legs, written_entry}
 use Rattle.journal_balance.proofs.DeclaredLemmas.{entry_declared}
 use Rattle.treasury_state.specs.declared.record.Record.{Record}
@@ -384,10 +384,10 @@ of_postings day comments (p ∷ ps) t e = cc
 
 pub from_closing : (select : List ℕ → Bool) (into : List ℕ) (comments : List (List ℕ)) (styles : List Style)
     (b : List Entry) (day : Day) (t : Txn) → closing select into comments styles b day ≡ Some t
-    → t ≡ closing_txn day comments (closing_postings b day into (selected select b) (declared styles))
+    → t ≡ closing_txn day comments (closing_postings b day into (selected select b) (declared_commodities styles))
 unfolding closing
 from_closing select into comments styles b day t e =
-    of_postings day comments (closing_postings b day into (selected select b) (declared styles)) t e
+    of_postings day comments (closing_postings b day into (selected select b) (declared_commodities styles)) t e
 
 -- each balance of it: that of the book, and on the day or later what the closing moves
 pub closed_balance : (select : List ℕ → Bool) (into : List ℕ) (f : Federation) (name : List ℕ) (day : Day) (t : Txn)

@@ -15,7 +15,7 @@ use Rattle.journal_balance.specs.Legs.{commodities}
 use Rattle.journal_balance.specs.Plain.{written_leg, written_legs}
 use Rattle.journal_balance.proofs.SumLemmas.{commodities_next, commodities_done}
 use Rattle.journal_balance.proofs.ValueLemmas.{value-append}
-use Rattle.treasury_core.specs.Closing.{posting_of}
+use Rattle.treasury_core.specs.Closing.{nonzero_posting}
 
 pub next_unit : (F : Commodity → List Posting) (old new all : List Posting) (n m : ℕ) → n < m
     → old ++ flat_map F (commodities n (m - n)) ≡ all → new ≡ old ++ F (record { 0 = n })
@@ -77,9 +77,9 @@ moved_next unit ps i p h e =
 
 -- what is posted, of equal quantities and assertions
 pub posted_as : (r : Result ⊤ Cause) (new old : List Posting) (account : List ℕ) (unit : Commodity) (q z : ℤ)
-    (k j : Option Claim) → OnOk r (new ≡ old ++ posting_of account unit q k) → q ≡ z → k ≡ j
-    → OnOk r (new ≡ old ++ posting_of account unit z j)
+    (k j : Option Claim) → OnOk r (new ≡ old ++ nonzero_posting account unit q k) → q ≡ z → k ≡ j
+    → OnOk r (new ≡ old ++ nonzero_posting account unit z j)
 posted_as (Ok x) new old account unit q z k j h e f =
-    h ∙ (ap (λ (y : ℤ). old ++ posting_of account unit y k) e ∙ ap
-    (λ (c : Option Claim). old ++ posting_of account unit z c) f)
+    h ∙ (ap (λ (y : ℤ). old ++ nonzero_posting account unit y k) e ∙ ap
+    (λ (c : Option Claim). old ++ nonzero_posting account unit z c) f)
 posted_as (Err x) new old account unit q z k j h e f = tt

@@ -51,8 +51,9 @@ use Rattle.journal_format.specs.Printable.{is_value, is_posting, IsPrintable}
 use Rattle.journal_format.proofs.SizeLemmas.{body_size, head_is, header_small, remarks_push, remark_small}
 use Rattle.journal_format.proofs.SizeLemmas.{postings-append, no_remarks, no_postings_size}
 use Rattle.journal_balance.specs.Conversion.{symbol_in, symbol_of, conversion_account}
-use Rattle.journal_balance.specs.Legs.{commodities, declared, leg, rest_leg, sum_of, amount_legs, posting_legs}
-use Rattle.journal_balance.specs.Legs.{legs_among, legs_of}
+use Rattle.journal_balance.specs.Legs.{commodities, declared_commodities, leg, rest_leg, sum_of, amount_legs}
+use Rattle.journal_balance.specs.Legs.{posting_legs}
+use Rattle.journal_balance.specs.Legs.{legs_among, balanced_entry}
 use Rattle.journal_balance.specs.Plain.{written_leg, written_legs, written_entry, is_written}
 use Rattle.journal_balance.proofs.FaultLemmas.{legs_found}
 use Rattle.journal_balance.proofs.NameLemmas.{conversion_formed}
@@ -67,7 +68,7 @@ use Rattle.treasury_state.proofs.OpenLemmas.{good_book}
 use Rattle.treasury_state.proofs.DateLemmas.{all_weaker}
 use Rattle.treasury_core.specs.declared.choice.Choice.{Choice}
 use Rattle.treasury_core.specs.Choice.{is_selected, target_in, choice_comments, choice_refusal}
-use Rattle.treasury_core.specs.Closing.{through, zero_claim, posting_of, selected, closed_account, held_in}
+use Rattle.treasury_core.specs.Closing.{through, zero_claim, nonzero_posting, selected, closed_account, held_in}
 use Rattle.treasury_core.specs.Closing.{gaining_account, closing_postings, closing_txn, closing_in}
 use Rattle.treasury_core.specs.Closed.{IsClosing}
 use Rattle.treasury_core.proofs.ProductLemmas.{line_small, same_size}
@@ -95,7 +96,7 @@ each_spread P name g c m n zero fits h = tt
 each_spread P name g c m n (suc k) fits h =
     let later : (n + 1) + k ≤ m = omega (arith, fits) in
     let known : n < m = omega (arith, fits) in
-    all-append P (posting_of name v (g v) (c v)) (spread name g c (commodities (n + 1) k))
+    all-append P (nonzero_posting name v (g v) (c v)) (spread name g c (commodities (n + 1) k))
     (by_test (int_eq (g v) (pos 0)) (h v known)) (each_spread P name g c m (n + 1) k later h)
   where
     v : Commodity
@@ -192,14 +193,15 @@ all_plain b room day into m names apart =
 
 -- the closing's entry is that of its postings as they are written
 pub closing_legs : (select : List ℕ → Bool) (into : List ℕ) (f : Federation) (name : List ℕ) (day : Day) (t : Txn)
-    → IsClosing select into f name day t → legs_of f.styles t ≡ Ok (written_entry t)
+    → IsClosing select into f name day t → balanced_entry f.styles t ≡ Ok (written_entry t)
 closing_legs select into f name day t h =
     let b = book_of f name in
     let names = selected select b in
     let m = length f.styles in
     let ps = closing_postings b day into names (commodities 0 m) in
     let plain = all_plain b (good_book f name h.good).within.small day into m names (selected_apart select b) in
-    let own : legs_of f.styles (closing_txn day h.comments ps) ≡ Ok (written_entry (closing_txn day h.comments ps)) =
+    let own : balanced_entry f.styles (closing_txn day h.comments ps) ≡ Ok
+    (written_entry (closing_txn day h.comments ps)) =
     legs_of-written f.styles (closing_txn day h.comments ps)
     (record {
       written = all_written ps plain;
@@ -207,7 +209,7 @@ closing_legs select into f name day t h =
           closing_balanced m b (book_known f name h.good) day into names unit;
       small = all_small ps plain;
     }) in
-    subst (λ (s : Txn). legs_of f.styles s ≡ Ok (written_entry s))
+    subst (λ (s : Txn). balanced_entry f.styles s ≡ Ok (written_entry s))
     (sym (from_closing select into h.comments f.styles b day t h.closes)) own
 
 -- ---- the accounts of a book are well formed
@@ -407,7 +409,7 @@ gaining_fits styles name unit q formed known small =
 
 all_short : (styles : List Style) (b : List Entry) → HasRoom b → (day : Day) (into : List ℕ) (names : List (List ℕ))
     → AreApart names → is_account_text into ≡ true → AllByRecursion (λ (n : List ℕ). is_account_text n ≡ true) names
-    → AllByRecursion (IsShort styles) (closing_postings b day into names (declared styles))
+    → AllByRecursion (IsShort styles) (closing_postings b day into names (declared_commodities styles))
 all_short styles b room day into names apart target formed =
     let m = length styles in
     let all : 0 + m ≤ m = omega arith in
@@ -509,7 +511,7 @@ closing_printable f name day c t good number chosen closes few =
     let select = is_selected c.accounts in
     let into = target_in c.into in
     let names = selected select b in
-    let ps = closing_postings b day into names (declared f.styles) in
+    let ps = closing_postings b day into names (declared_commodities f.styles) in
     let is = from_closing select into (choice_comments c) f.styles b day t closes in
     let formed =
     names_formed select f.styles (styles_named f.styles good.styles) (records_of f name)

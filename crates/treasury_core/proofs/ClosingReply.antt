@@ -20,7 +20,7 @@ use Rattle.journal_format.specs.declared.posting.Posting.{Posting}
 use Rattle.journal_format.specs.declared.txn.Txn.{Txn}
 use Rattle.journal_format.specs.Pieces.{posting_limit}
 use Rattle.journal_format.specs.Printable.{IsPrintable}
-use Rattle.journal_balance.specs.Legs.{declared, commodities}
+use Rattle.journal_balance.specs.Legs.{declared_commodities, commodities}
 use Rattle.journal_balance.specs.Plain.{written_leg, written_legs}
 use Rattle.treasury_state.specs.Federation.{Federation, has_branch, book_of, is_locked}
 use Rattle.treasury_state.specs.Good.{IsGoodState, IsGoodRecord}
@@ -63,7 +63,7 @@ of_branch f name day c h k =
 -- the postings of the book, in the styles
 abbrev pub postings_in : Choice → List Style → List Entry → Day → List Posting
 postings_in c styles b day =
-    closing_postings b day (target_in c.into) (selected (is_selected c.accounts) b) (declared styles)
+    closing_postings b day (target_in c.into) (selected (is_selected c.accounts) b) (declared_commodities styles)
 
 pub answers : (f : Federation) (name : List ℕ) (day : Day) (c : Choice) (b : List Entry) (styles : List Style)
     (ps : List Posting) (r : Result Txn Refusal) → has_branch f name ≡ true → choice_refusal c ≡ None

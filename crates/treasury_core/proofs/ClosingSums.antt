@@ -28,7 +28,7 @@ use Rattle.book_core.proofs.BookLemmas.{one_unit}
 use Rattle.journal_format.specs.declared.posting.Posting.{Posting}
 use Rattle.journal_balance.specs.Legs.{commodities}
 use Rattle.journal_balance.specs.Plain.{written_leg, written_legs}
-use Rattle.treasury_core.specs.Closing.{through, zero_claim, posting_of, closed_account, held_in}
+use Rattle.treasury_core.specs.Closing.{through, zero_claim, nonzero_posting, closed_account, held_in}
 use Rattle.treasury_core.proofs.ProductLemmas.{same_size}
 
 -- ---- what postings pick
@@ -72,7 +72,7 @@ zero_size true q e = ap unsigned_abs e
 zero_size false q e = refl
 
 picked_posting : (p : List ℕ → Bool) (unit v : Commodity) (name : List ℕ) (q : ℤ) (c : Option Claim)
-    → picked p unit (written_legs (posting_of name v q c)) ≡ (if nat_eq v.0 unit.0 && p name then q else pos 0)
+    → picked p unit (written_legs (nonzero_posting name v q c)) ≡ (if nat_eq v.0 unit.0 && p name then q else pos 0)
 picked_posting p unit v name q c = by_test (int_eq q (pos 0)) refl
   where
     posting : Posting
@@ -85,7 +85,7 @@ picked_posting p unit v name q c = by_test (int_eq q (pos 0)) refl
     by_test false e = omega (arith, ints)
 
 moved_posting : (unit v : Commodity) (name : List ℕ) (q : ℤ) (c : Option Claim)
-    → moved unit (written_legs (posting_of name v q c)) ≡ (if nat_eq v.0 unit.0 then unsigned_abs q else 0)
+    → moved unit (written_legs (nonzero_posting name v q c)) ≡ (if nat_eq v.0 unit.0 then unsigned_abs q else 0)
 moved_posting unit v name q c = by_test (int_eq q (pos 0)) refl
   where
     posting : Posting
@@ -99,15 +99,15 @@ moved_posting unit v name q c = by_test (int_eq q (pos 0)) refl
 -- ---- postings of one account, in commodities one after another
 
 abbrev pub spread : List ℕ → (Commodity → ℤ) → (Commodity → Option Claim) → List Commodity → List Posting
-spread name g c units = flat_map (λ (unit : Commodity). posting_of name unit (g unit) (c unit)) units
+spread name g c units = flat_map (λ (unit : Commodity). nonzero_posting name unit (g unit) (c unit)) units
 
 picked_step : (p : List ℕ → Bool) (unit : Commodity) (name : List ℕ) (g : Commodity → ℤ) (c : Commodity → Option Claim)
     (v : Commodity) (vs : List Commodity) →
     picked p unit (written_legs (spread name g c (v ∷ vs)))
     ≡ (if nat_eq v.0 unit.0 && p name then g v else pos 0) +ℤ picked p unit (written_legs (spread name g c vs))
 picked_step p unit name g c v vs =
-    ap (picked p unit) (legs-append (posting_of name v (g v) (c v)) (spread name g c vs))
-    ∙ picked-append p unit (written_legs (posting_of name v (g v) (c v))) (written_legs (spread name g c vs))
+    ap (picked p unit) (legs-append (nonzero_posting name v (g v) (c v)) (spread name g c vs))
+    ∙ picked-append p unit (written_legs (nonzero_posting name v (g v) (c v))) (written_legs (spread name g c vs))
     ∙ ap (λ (z : ℤ). z +ℤ picked p unit (written_legs (spread name g c vs))) (picked_posting p unit v name (g v) (c v))
 
 moved_step : (unit : Commodity) (name : List ℕ) (g : Commodity → ℤ) (c : Commodity → Option Claim) (v : Commodity)
@@ -115,8 +115,8 @@ moved_step : (unit : Commodity) (name : List ℕ) (g : Commodity → ℤ) (c : C
     moved unit (written_legs (spread name g c (v ∷ vs)))
     ≡ (if nat_eq v.0 unit.0 then unsigned_abs (g v) else 0) + moved unit (written_legs (spread name g c vs))
 moved_step unit name g c v vs =
-    ap (moved unit) (legs-append (posting_of name v (g v) (c v)) (spread name g c vs))
-    ∙ moved-append unit (written_legs (posting_of name v (g v) (c v))) (written_legs (spread name g c vs))
+    ap (moved unit) (legs-append (nonzero_posting name v (g v) (c v)) (spread name g c vs))
+    ∙ moved-append unit (written_legs (nonzero_posting name v (g v) (c v))) (written_legs (spread name g c vs))
     ∙ ap (λ (n : ℕ). n + moved unit (written_legs (spread name g c vs))) (moved_posting unit v name (g v) (c v))
 
 other_number : (n m : ℕ) → m < n → nat_eq n m ≡ false
@@ -227,8 +227,9 @@ same_spread name g h c m n (suc k) fits same =
     let v : Commodity = record { 0 = n } in
     let known : n < m = omega (arith, fits) in
     let later : (n + 1) + k ≤ m = omega (arith, fits) in
-    ap (λ (q : ℤ). posting_of name v q (c v) ++ spread name g c (commodities (n + 1) k)) (same v known)
-    ∙ ap (λ (xs : List Posting). posting_of name v (h v) (c v) ++ xs) (same_spread name g h c m (n + 1) k later same)
+    ap (λ (q : ℤ). nonzero_posting name v q (c v) ++ spread name g c (commodities (n + 1) k)) (same v known)
+    ∙ ap (λ (xs : List Posting). nonzero_posting name v (h v) (c v) ++ xs)
+    (same_spread name g h c m (n + 1) k later same)
 
 -- ---- closed accounts
 

@@ -18,7 +18,8 @@ use Rattle.treasury_core.specs.declared.command.Answer.{Answer}
 use Rattle.treasury_core.specs.declared.command.Answer.TheVariants.{Entered}
 use Rattle.treasury_core.specs.declared.command.Command.{Command}
 use Rattle.treasury_core.specs.declared.command.Command.TheVariants as cmd
-use Rattle.treasury_core.specs.Step.{unless, entered, records_in_file, new_in, file_refusal, reply, after, added, delta}
+use Rattle.treasury_core.specs.Step.{unless, entered_answer, records_in_file, new_in, file_refusal, reply, after, added}
+use Rattle.treasury_core.specs.Step.{delta}
 use Rattle.treasury_core.specs.Step.{step, Decides}
 use Rattle.treasury_core.specs.Fits.{Fits}
 use Rattle.treasury_core.proofs.JoinedLemmas.{after_joined}
@@ -27,7 +28,7 @@ use Rattle.treasury_core.proofs.ReplyLemmas.{after_good}
 -- a file into a branch that is there
 reply_there : (f : Federation) (name : List ℕ) (file : List Located) (b : Branch) → IsThere f.branches name b
     → reply f (cmd.Enter name file)
-    ≡ unless (entered (length (new_in b.records (records_in_file f.styles file))) (length file))
+    ≡ unless (entered_answer (length (new_in b.records (records_in_file f.styles file))) (length file))
     (file_refusal f.styles b.locked b.records file)
 unfolding reply
 reply_there f name file b there = rw (there.any, there.records, there.lock) refl
@@ -39,7 +40,7 @@ pub decides_entered : (f : Federation) (name : List ℕ) (file : List Located) (
 unfolding added
 decides_entered f name file b new p there same none answer adds = (
   reply_there f name file b there ∙ ap
-      (unless (entered (length (new_in b.records (records_in_file f.styles file))) (length file))) none
+      (unless (entered_answer (length (new_in b.records (records_in_file f.styles file))) (length file))) none
       ∙ ap (λ (xs : List Record). let r : Result Answer Refusal =
       Ok (Entered (length xs) (length file - length xs)) in r) (sym same) ∙ ap
       (λ (a : Answer). let r : Result Answer Refusal = Ok a in r) (sym answer),
@@ -66,7 +67,7 @@ pub decides_enter_refusal : (f : Federation) (name : List ℕ) (file : List Loca
 decides_enter_refusal f name file b e there (inl h) = inl h
 decides_enter_refusal f name file b e there (inr h) =
     inr (reply_there f name file b there ∙ ap
-    (unless (entered (length (new_in b.records (records_in_file f.styles file))) (length file))) h)
+    (unless (entered_answer (length (new_in b.records (records_in_file f.styles file))) (length file))) h)
 
 pub refuses_by : (f : Federation) (name : List ℕ) (file : List Located) (b : Branch) (styles : List Style) (e : Refusal)
     → styles ≡ f.styles → IsThere f.branches name b

@@ -25,13 +25,13 @@ use Rattle.journal_format.specs.declared.txn.Located.{Located}
 use Rattle.journal_format.specs.Printable.{IsPrintable, is_mark_or_none}
 use Rattle.journal_format.specs.CanonicalText.{body_text, marked}
 use Rattle.journal_format.specs.Mark.{is_mark, is_mark_byte}
-use Rattle.journal_balance.specs.Legs.{legs_of, balancing_fault}
+use Rattle.journal_balance.specs.Legs.{balanced_entry, balancing_fault}
 use Rattle.sha2.specs.Sha256.{sha256, digest_bytes}
 use Rattle.sha2.proofs.Facts256.{length-sha256}
 use Rattle.hex.specs.Hex.{encode_lower, encode_with, lower_digits}
 use Rattle.hex.proofs.HexLemmas.{length-encode_with}
 use Rattle.treasury_state.specs.declared.record.Record.{Record}
-use Rattle.treasury_state.specs.Mark.{is_held, HaveOwnMarks, is_repeat, is_product_mark, mark_of, hash_mark}
+use Rattle.treasury_state.specs.Mark.{is_held, HaveOwnMarks, is_repeat, is_product_mark, transaction_mark, hash_mark}
 use Rattle.treasury_state.specs.Transfer.{is_transit}
 use Rattle.treasury_state.specs.Federation.{is_locked}
 use Rattle.treasury_state.specs.Good.{IsGoodRecord}
@@ -106,12 +106,12 @@ hash_is_mark text n small =
     is_mark_of (hex ++ (45 ∷ decimal n)) tail bytes
 
 mark_fits : (styles : List Style) (t : Txn) (n : ℕ) (o : Option (List ℕ)) → n < 2 ^ 64 → is_mark_or_none o ≡ true
-    → is_mark (mark_of styles t n o) ≡ true
+    → is_mark (transaction_mark styles t n o) ≡ true
 mark_fits styles t n (Some m) small h = h
 mark_fits styles t n None small h = hash_is_mark (body_text styles t) n small
 
 pub printable_marked : (styles : List Style) (t : Txn) (n : ℕ) → n < 2 ^ 64 → IsPrintable styles t
-    → IsPrintable styles (marked t (Some (mark_of styles t n t.mark)))
+    → IsPrintable styles (marked t (Some (transaction_mark styles t n t.mark)))
 printable_marked styles t n small h = record {
   header = h.header;
   code = h.code;
@@ -125,18 +125,18 @@ printable_marked styles t n small h = record {
 
 -- the mark plays no part in what a transaction does
 pub legs_of-marked : (styles : List Style) (t : Txn) (mark : Option (List ℕ))
-    → legs_of styles (marked t mark) ≡ legs_of styles t
-unfolding legs_of balancing_fault
+    → balanced_entry styles (marked t mark) ≡ balanced_entry styles t
+unfolding balanced_entry balancing_fault
 legs_of-marked styles t mark = refl
 
 recorded_good : (styles : List Style) (t : Txn) (n : ℕ) (r : Result Entry Cause) → n < 2 ^ 64 → IsPrintable styles t
-    → legs_of styles t ≡ r
-    → AllByRecursion (IsGoodRecord styles) (recorded t (mark_of styles t n t.mark) r)
+    → balanced_entry styles t ≡ r
+    → AllByRecursion (IsGoodRecord styles) (recorded t (transaction_mark styles t n t.mark) r)
 recorded_good styles t n (Ok e) small printable h = (
   record {
     marked = refl;
     printable = printable_marked styles t n small printable;
-    legs = legs_of-marked styles t (Some (mark_of styles t n t.mark)) ∙ h;
+    legs = legs_of-marked styles t (Some (transaction_mark styles t n t.mark)) ∙ h;
   },
   tt,
 )
@@ -157,9 +157,9 @@ records_good styles before (x ∷ xs) small printable =
     let more : length (before ++ x.txn ∷ []) + length xs < 2 ^ 64 =
     omega (arith, small, length-append before (x.txn ∷ [])) in
     all-append (IsGoodRecord styles)
-    (recorded x.txn (mark_of styles x.txn (number_in styles before x.txn) x.txn.mark) (legs_of styles x.txn))
-    (records_from styles (before ++ x.txn ∷ []) xs)
-    (recorded_good styles x.txn (number_in styles before x.txn) (legs_of styles x.txn) bound printable.0 refl)
+    (recorded x.txn (transaction_mark styles x.txn (number_in styles before x.txn) x.txn.mark)
+    (balanced_entry styles x.txn)) (records_from styles (before ++ x.txn ∷ []) xs)
+    (recorded_good styles x.txn (number_in styles before x.txn) (balanced_entry styles x.txn) bound printable.0 refl)
     (records_good styles (before ++ x.txn ∷ []) xs more printable.1)
 
 -- what holds of all holds of the new ones
@@ -263,9 +263,11 @@ pub length-records : (styles : List Style) (before : List Txn) (file : List Loca
 length-records styles before [] = omega arith
 length-records styles before (x ∷ xs) =
     let front =
-    recorded x.txn (mark_of styles x.txn (number_in styles before x.txn) x.txn.mark) (legs_of styles x.txn) in
+    recorded x.txn (transaction_mark styles x.txn (number_in styles before x.txn) x.txn.mark)
+    (balanced_entry styles x.txn) in
     let one =
-    recorded_once x.txn (mark_of styles x.txn (number_in styles before x.txn) x.txn.mark) (legs_of styles x.txn) in
+    recorded_once x.txn (transaction_mark styles x.txn (number_in styles before x.txn) x.txn.mark)
+    (balanced_entry styles x.txn) in
     omega (
       arith,
       one,

@@ -24,7 +24,8 @@ use Rattle.journal_lines.specs.Blank.{is_blank, is_trimmed}
 use Rattle.journal_lines.specs.Date.{IsDayNumber}
 use Rattle.journal_lines.specs.Comment.{has_no}
 use Rattle.journal_lines.specs.Printed.{is_clean, is_description}
-use Rattle.journal_lines.specs.AccountName.{is_account, is_part, has_gap, is_gap, is_name_byte as is_account_byte}
+use Rattle.journal_lines.specs.AccountName.{is_account, is_part, has_gap, is_gap}
+use Rattle.journal_lines.specs.AccountName.{is_account_name_byte as is_account_byte}
 use Rattle.journal_format.specs.declared.posting.Posting.{Posting}
 use Rattle.journal_format.specs.CanonicalText.{body_text}
 use Rattle.journal_format.specs.Mark.{is_mark, is_mark_byte}
@@ -38,7 +39,7 @@ use Rattle.journal_balance.proofs.WrittenLemmas.{legs_of-written}
 use Rattle.journal_balance.proofs.NameLemmas.{no_gap}
 use Rattle.treasury_state.specs.declared.transfer.Part.{Part}
 use Rattle.treasury_state.specs.declared.transfer.Transfer.{Transfer}
-use Rattle.treasury_state.specs.Federation.{is_name_byte, is_branch_name}
+use Rattle.treasury_state.specs.Federation.{is_branch_name_byte, is_branch_name}
 use Rattle.treasury_state.specs.Transfer.{is_id, is_id_byte, is_all, is_key, posting, product_record, transit_account}
 use Rattle.treasury_state.specs.Transfer.{out_mark, mark_tail, in_mark, text_tail, in_text, dispatch_record}
 use Rattle.treasury_state.specs.Transfer.{receipt_record}
@@ -84,7 +85,7 @@ id_between b h = record {
   no_semicolon = grind (arith, common_steps);
 }
 
-name_between : (b : ℕ) → is_name_byte b ≡ true → IsBetween b
+name_between : (b : ℕ) → is_branch_name_byte b ≡ true → IsBetween b
 name_between b h = record {
   low = grind (arith, common_steps);
   high = grind (arith, common_steps);
@@ -92,13 +93,13 @@ name_between b h = record {
   no_semicolon = grind (arith, common_steps);
 }
 
-name_is_id : (b : ℕ) → is_name_byte b ≡ true → is_id_byte b ≡ true
+name_is_id : (b : ℕ) → is_branch_name_byte b ≡ true → is_id_byte b ≡ true
 name_is_id b h = grind (arith, common_steps)
 
 plain_id : (b : ℕ) → is_id_byte b ≡ true → IsPlain b
 plain_id b h = plain_from b (id_between b h) (or_left (is_id_byte b) (b == 58) h)
 
-plain_name : (b : ℕ) → is_name_byte b ≡ true → IsPlain b
+plain_name : (b : ℕ) → is_branch_name_byte b ≡ true → IsPlain b
 plain_name b h = plain_from b (name_between b h) (or_left (is_id_byte b) (b == 58) (name_is_id b h))
 
 pub all_plain : (p : ℕ → Bool) → ((b : ℕ) → p b ≡ true → IsPlain b) → (xs : List ℕ) → list_all p xs ≡ true
@@ -137,11 +138,12 @@ some_from (x ∷ xs) h = omega arith
 pub name_word : (name : List ℕ) → is_branch_name name ≡ true → (IsWord name) × (length name ≤ 32)
 name_word name h =
     let one =
-    and_parts (is_ascii_lowercase (slice_index name 0) && list_all is_name_byte name) (nat_le (length name) 32) h in
-    let two = and_parts (is_ascii_lowercase (slice_index name 0)) (list_all is_name_byte name) one.0 in
+    and_parts (is_ascii_lowercase (slice_index name 0) && list_all is_branch_name_byte name) (nat_le (length name) 32)
+    h in
+    let two = and_parts (is_ascii_lowercase (slice_index name 0)) (list_all is_branch_name_byte name) one.0 in
     let few = leb-true (length name) 32 one.1 in (
       record {
-        plain = all_plain is_name_byte plain_name name two.1;
+        plain = all_plain is_branch_name_byte plain_name name two.1;
         some = some_from name two.0;
         few = omega (arith, few);
       },

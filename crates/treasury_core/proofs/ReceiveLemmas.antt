@@ -19,7 +19,8 @@ use Rattle.treasury_state.specs.declared.transfer.Receipt.{Receipt}
 use Rattle.treasury_state.specs.declared.transfer.Transfer.{Transfer}
 use Rattle.treasury_state.specs.Federation.{Branch}
 use Rattle.treasury_state.specs.Mark.{has_mark, held, is_of_transfer}
-use Rattle.treasury_state.specs.Transfer.{all_key, is_all, is_key, sum_of, rest_part, of_rest, receipts_of, left_of}
+use Rattle.treasury_state.specs.Transfer.{all_key, is_all, is_key, sum_of_parts, rest_part, of_rest, receipts_of}
+use Rattle.treasury_state.specs.Transfer.{left_of}
 use Rattle.treasury_state.specs.Transfer.{in_mark, receipt_record, asked, out_records, in_records, has_id}
 use Rattle.treasury_state.specs.Joined.{put_part, parts_with, rest_with, with_receipt, with_records}
 use Rattle.treasury_state.specs.Good.{IsGoodPart, IsGoodRest, IsGoodTransfer}
@@ -119,7 +120,7 @@ fresh_parts t p h = ap (λ (ps : List Part). list_any (λ (x : Part). bytes_eq x
 abbrev with_at : Bool → Part → Transfer → Transfer
 with_at b p t = record t { parts = parts_with b p t.parts; receipt = rest_with b p t.receipt }
 
-part_is_rest : (t : Transfer) (p : Part) → is_all p.key ≡ true → p.qty ≡ t.qty -ℤ sum_of t.parts
+part_is_rest : (t : Transfer) (p : Part) → is_all p.key ≡ true → p.qty ≡ t.qty -ℤ sum_of_parts t.parts
     → p ≡ rest_part t (record { day = p.day; payee = p.payee })
 part_is_rest t p all e =
     ap (λ (k : List ℕ). let x : Part = record { key = k; qty = p.qty; day = p.day; payee = p.payee } in x)
@@ -130,7 +131,7 @@ good_at : (bs : List Branch) (t : Transfer) (p : Part) (b : Bool) → is_all p.k
     → IsReceipt t p → IsGoodTransfer bs (with_at b p t)
 good_at bs t p true e good h =
     let none = no_rest t p h in
-    let rest : p.qty ≡ t.qty -ℤ sum_of t.parts = h.whole e ∙ left_none t none in
+    let rest : p.qty ≡ t.qty -ℤ sum_of_parts t.parts = h.whole e ∙ left_none t none in
     record {
       id = good.id;
       source = good.source;
@@ -162,7 +163,7 @@ good_at bs t p false e good h =
         keys = all_put (λ (x : Part). is_key x.key ≡ true) p t.parts (h.key e) good.parts.keys;
         keyed = keyed_put p t.parts (fresh_parts t p h) good.parts.keyed;
         each = all_put (IsGoodPart t.day) p t.parts h.part good.parts.each;
-        within = int_le-true (sum_of (put_part p t.parts)) t.qty (omega (arith, ints));
+        within = int_le-true (sum_of_parts (put_part p t.parts)) t.qty (omega (arith, ints));
       };
       rest = subst (λ (o : Option Receipt). IsGoodRest (with_at false p t) o) (sym none) tt;
     }

@@ -7,7 +7,7 @@ use Rattle.money_core.specs.declared.style.Style.{Style}
 use Rattle.book_core.specs.declared.refusal.Refusal.{Refusal}
 use Rattle.journal_format.specs.declared.txn.Txn.{Txn}
 use Rattle.journal_format.specs.declared.txn.Located.{Located}
-use Rattle.journal_balance.specs.Legs.{legs_of}
+use Rattle.journal_balance.specs.Legs.{balanced_entry}
 use Rattle.treasury_state.specs.declared.record.Record.{Record}
 use Rattle.treasury_core.specs.Step.{fault_on, unbalanced, recorded_in, records_from}
 use Rattle.treasury_core.specs.Counted.{AreCounted}
@@ -44,7 +44,7 @@ rows_next styles file i x rows new all row h e pushed same before =
     ∙ before
 
 pub balanced_next : (styles : List Style) (file : List Located) (i : ℕ) (x : Located) (all : Option Refusal)
-    → i < length file → x ≡ get_or file i x → fault_on x.line (legs_of styles x.txn) ≡ None
+    → i < length file → x ≡ get_or file i x → fault_on x.line (balanced_entry styles x.txn) ≡ None
     → unbalanced styles (drop i file) ≡ all → unbalanced styles (drop (i + 1) file) ≡ all
 balanced_next styles file i x all h e fine before =
     sym (ap (λ (o : Option Refusal). option_or o (unbalanced styles (drop (i + 1) file))) fine)

@@ -15,7 +15,7 @@ use Rattle.book_core.proofs.AccountListLemmas.{is_less, name_after}
 use Rattle.treasury_state.specs.declared.transfer.Part.{Part}
 use Rattle.treasury_state.specs.declared.transfer.Transfer.{Transfer}
 use Rattle.treasury_state.specs.Federation.{Branch, has_name}
-use Rattle.treasury_state.specs.Transfer.{has_id, sum_of, of_rest, left_of}
+use Rattle.treasury_state.specs.Transfer.{has_id, sum_of_parts, of_rest, left_of}
 use Rattle.treasury_state.specs.Joined.{inserted, received, with_receipt, put_part}
 use Rattle.treasury_state.specs.Good.{IsGoodTransfer, AreKeyed, HasGoodParts, AreAscending}
 use Rattle.treasury_state.specs.declared.transfer.Receipt.{Receipt}
@@ -72,9 +72,9 @@ pub left_low : (t : Transfer) → HasGoodParts t → pos 0 ≤ℤ left_of t
 left_low t good = let h = received_within t good in omega (arith, ints)
 
 -- else what the parts leave
-pub left_none : (t : Transfer) → t.receipt ≡ None → left_of t ≡ t.qty -ℤ sum_of t.parts
-left_none t none = ap (λ (o : Option Receipt). t.qty -ℤ sum_of (t.parts ++ of_rest t o)) none ∙ ap
-    (λ (ps : List Part). t.qty -ℤ sum_of ps) (append-nil t.parts)
+pub left_none : (t : Transfer) → t.receipt ≡ None → left_of t ≡ t.qty -ℤ sum_of_parts t.parts
+left_none t none = ap (λ (o : Option Receipt). t.qty -ℤ sum_of_parts (t.parts ++ of_rest t o)) none ∙ ap
+    (λ (ps : List Part). t.qty -ℤ sum_of_parts ps) (append-nil t.parts)
 
 left_at : (t : Transfer) (o : Option Receipt) → t.receipt ≡ o → HasGoodParts t → pos 0 ≤ℤ t.qty → left_of t ≤ℤ t.qty
 left_at t None e good h =
@@ -103,12 +103,12 @@ all_put P p (x ∷ xs) h k = by_test (is_lt (name_cmp x.key p.key)) (all_put P p
     by_test true m = (k.0, m)
     by_test false m = (h, k)
 
-pub sum_put : (p : Part) (ps : List Part) → sum_of (put_part p ps) ≡ p.qty +ℤ sum_of ps
+pub sum_put : (p : Part) (ps : List Part) → sum_of_parts (put_part p ps) ≡ p.qty +ℤ sum_of_parts ps
 sum_put p [] = refl
 sum_put p (x ∷ xs) = by_test (is_lt (name_cmp x.key p.key)) (sum_put p xs)
   where
-    by_test : (c : Bool) → sum_of (put_part p xs) ≡ p.qty +ℤ sum_of xs
-        → sum_of (if c then x ∷ put_part p xs else p ∷ x ∷ xs) ≡ p.qty +ℤ (x.qty +ℤ sum_of xs)
+    by_test : (c : Bool) → sum_of_parts (put_part p xs) ≡ p.qty +ℤ sum_of_parts xs
+        → sum_of_parts (if c then x ∷ put_part p xs else p ∷ x ∷ xs) ≡ p.qty +ℤ (x.qty +ℤ sum_of_parts xs)
     by_test true e = omega (arith, ints)
     by_test false e = refl
 

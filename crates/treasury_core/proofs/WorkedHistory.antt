@@ -9,7 +9,7 @@ use Rattle.book_core.specs.Claim.{fault, stray, failure}
 use Rattle.book_core.specs.GoodBook.{verdict}
 use Rattle.journal_format.specs.declared.txn.Txn.{Txn}
 use Rattle.journal_format.specs.Pieces.{located}
-use Rattle.journal_balance.specs.Legs.{leg, balancing_fault, legs_of}
+use Rattle.journal_balance.specs.Legs.{leg, balancing_fault, balanced_entry}
 use Rattle.treasury_state.proofs.WorkedHistory.{day, euros, receipt, statement, late_receipt, stated, federation}
 use Rattle.treasury_core.specs.declared.command.Answer.TheVariants.{Done, Entered, Repeated}
 use Rattle.treasury_core.specs.declared.command.Command.{Command}
@@ -31,7 +31,7 @@ pub replies : (reply (federation None []) (into (codes "north") statement) ≡ O
       asserted = pos 1000;
       found = pos 1100;
     })))
-unfolding reply verdict failure fault stray balance balancing_fault legs_of
+unfolding reply verdict failure fault stray balance balancing_fault balanced_entry
 replies = (refl, refl, refl)
 
 -- a branch that is not there, before a transaction that does not sum to zero; that transaction, with the line of its
@@ -44,7 +44,7 @@ pub refusals : (reply (federation None []) (into (codes "west") (receipt (codes 
     (into (codes "north") (receipt (codes "in:x") (pos 1) (pos 100) None (neg_ℤ (pos 100))))
     ≡ Err (Plain ReservedMark))
     × (reply (federation (Some (day (pos 20))) []) (into (codes "north") late_receipt) ≡ Err (Plain Locked))
-unfolding reply balancing_fault legs_of
+unfolding reply balancing_fault balanced_entry
 refusals = (refl, refl, refl, refl)
 
 -- a branch that is there, a lock, the same again, one before it

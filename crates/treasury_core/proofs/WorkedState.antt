@@ -15,7 +15,7 @@ use Rattle.journal_lines.proofs.DateLemmas.{day_number_from}
 use Rattle.journal_format.specs.CanonicalText.{body_text}
 use Rattle.journal_format.specs.Printable.{IsPrintable}
 use Rattle.journal_format.proofs.SizeLemmas.{body_size, head_is, header_small, postings-append, no_remarks}
-use Rattle.journal_balance.specs.Legs.{leg, legs_of, balancing_fault}
+use Rattle.journal_balance.specs.Legs.{leg, balanced_entry, balancing_fault}
 use Rattle.treasury_state.specs.Federation.{Branch}
 use Rattle.treasury_state.specs.Transfer.{rest_part}
 use Rattle.treasury_state.specs.Good.{IsGoodRecord, IsGoodBranch, HasGoodParts, IsGoodRest, IsGoodTransfer, IsGoodState}
@@ -62,7 +62,7 @@ small_income =
     )
 
 good_stated : IsGoodRecord styles (stated (pos 1500))
-unfolding legs_of balancing_fault
+unfolding balanced_entry balancing_fault
 good_stated = record {
   marked = refl;
   printable = record {
@@ -93,7 +93,7 @@ pub other_legs : IsGoodRecord styles
     (record (stated (pos 1500))
     { entry = record { day = day (pos 31); legs = leg (codes "income") euros (neg_ℤ (pos 500)) ∷ []; claims = [] } })
     → ⊥
-unfolding legs_of balancing_fault
+unfolding balanced_entry balancing_fault
 other_legs good = let no : 2 ≡ 1 = ap legs_in good.legs in absurd (omega (arith, no))
 
 -- ---- books

@@ -48,9 +48,9 @@ target_in None = retained_earnings
 target_in (Some account) = account
 
 -- the names that are listed
-abbrev pub listed : Option (List (List ℕ)) → List (List ℕ)
-listed None = []
-listed (Some names) = names
+abbrev pub listed_names : Option (List (List ℕ)) → List (List ℕ)
+listed_names None = []
+listed_names (Some names) = names
 
 -- ---- what the entry says of it
 
@@ -86,10 +86,10 @@ holds_transit account = bytes_eq account (codes "assets") || is_reserved account
 -- accounts, where the target may be `assets`; the target would be closed itself; the list is too long
 abbrev pub choice_refusal : Choice → Option Refusal
 choice_refusal c =
-    if not (list_all is_account_text (listed c.accounts)) then Some (Plain BadAccount)
+    if not (list_all is_account_text (listed_names c.accounts)) then Some (Plain BadAccount)
     else if not (is_account_text (target_in c.into)) then Some (Plain BadAccount)
-    else if list_any holds_transit (listed c.accounts) then Some (Plain ReservedAccount)
+    else if list_any holds_transit (listed_names c.accounts) then Some (Plain ReservedAccount)
     else if is_reserved (target_in c.into) then Some (Plain ReservedAccount)
     else if is_selected c.accounts (target_in c.into) then Some (Plain BadAccount)
-    else if nat_lt list_limit (length (list_text (listed c.accounts))) then Some (Plain Limit)
+    else if nat_lt list_limit (length (list_text (listed_names c.accounts))) then Some (Plain Limit)
     else None

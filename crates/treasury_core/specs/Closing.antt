@@ -20,7 +20,7 @@ use Rattle.book_core.specs.Accounts.{book_accounts}
 use Rattle.journal_format.specs.declared.posting.Posting.{Posting}
 use Rattle.journal_format.specs.declared.txn.Txn.{Txn}
 use Rattle.journal_format.specs.Pieces.{posting_limit}
-use Rattle.journal_balance.specs.Legs.{declared}
+use Rattle.journal_balance.specs.Legs.{declared_commodities}
 use Rattle.journal_balance.specs.Plain.{written_entry}
 use Rattle.treasury_state.specs.declared.record.Record.{Record}
 use Rattle.treasury_state.specs.Federation.{Federation, has_branch, book_of}
@@ -45,8 +45,8 @@ abbrev pub zero_claim : Commodity → Claim
 zero_claim unit = record { kind = Exact; unit = unit; qty = pos 0 }
 
 -- a posting of a quantity; none where it is zero
-abbrev pub posting_of : List ℕ → Commodity → ℤ → Option Claim → List Posting
-posting_of account unit q claim =
+abbrev pub nonzero_posting : List ℕ → Commodity → ℤ → Option Claim → List Posting
+nonzero_posting account unit q claim =
     if int_eq q (pos 0) then []
     else record {
       status = None;
@@ -61,7 +61,7 @@ posting_of account unit q claim =
 abbrev pub closed_account : List Entry → Day → List Commodity → List ℕ → List Posting
 closed_account b day units account =
     flat_map (λ (unit : Commodity).
-    posting_of account unit (pos 0 -ℤ through b day account unit) (Some (zero_claim unit))) units
+    nonzero_posting account unit (pos 0 -ℤ through b day account unit) (Some (zero_claim unit))) units
 
 -- what accounts hold in a commodity, together
 abbrev pub held_in : List Entry → Day → Commodity → List (List ℕ) → ℤ
@@ -71,7 +71,7 @@ held_in b day unit (account ∷ accounts) = through b day account unit +ℤ held
 -- the account that gets it: a posting of each sum
 abbrev pub gaining_account : List Entry → Day → List ℕ → List (List ℕ) → List Commodity → List Posting
 gaining_account b day into accounts units =
-    flat_map (λ (unit : Commodity). posting_of into unit (held_in b day unit accounts) None) units
+    flat_map (λ (unit : Commodity). nonzero_posting into unit (held_in b day unit accounts) None) units
 
 -- the postings of a closing of these accounts into that one: account by account, each in declared order
 abbrev pub closing_postings : List Entry → Day → List ℕ → List (List ℕ) → List Commodity → List Posting
@@ -100,7 +100,7 @@ closing_of day comments (p ∷ ps) = Some (closing_txn day comments (p ∷ ps))
 -- the closing of a book at a day: of the accounts that are selected, into that one, with these comments
 unfoldable pub closing : (List ℕ → Bool) → List ℕ → List (List ℕ) → List Style → List Entry → Day → Option Txn
 closing select into comments styles b day =
-    closing_of day comments (closing_postings b day into (selected select b) (declared styles))
+    closing_of day comments (closing_postings b day into (selected select b) (declared_commodities styles))
 
 -- the record of a closing, with its postings as they are written
 abbrev pub closing_record : Day → Txn → Record

@@ -11,12 +11,12 @@ use Rattle.journal_format.specs.declared.txn.Txn.{Txn}
 use Rattle.treasury_state.specs.Mark.{alike}
 
 -- two texts are equal
-abbrev pub is_text : Vec ℕ → Vec ℕ → Bool
-is_text x y = bytes_eq x.items y.items
+abbrev pub are_equal_texts : Vec ℕ → Vec ℕ → Bool
+are_equal_texts x y = bytes_eq x.items y.items
 
 -- how often a text was counted
 abbrev pub count_of : HashMap (Vec ℕ) ℕ (BuildHasherDefault FoldHasher) → Vec ℕ → ℕ
-count_of counts text = unwrap_or (get is_text counts text) 0
+count_of counts text = unwrap_or (get are_equal_texts counts text) 0
 
 -- the counts once a text that was counted so often is counted again
 abbrev pub counted_more : Vec ℕ → ℕ → Vec ℕ → ℕ → ℕ

@@ -25,7 +25,7 @@ use Rattle.book_core.specs.GoodBook.{verdict}
 use Rattle.journal_format.specs.declared.txn.Txn.{Txn}
 use Rattle.journal_format.specs.declared.txn.Located.{Located}
 use Rattle.journal_format.specs.CanonicalText.{body_text, marked}
-use Rattle.journal_balance.specs.Legs.{legs_of}
+use Rattle.journal_balance.specs.Legs.{balanced_entry}
 use Rattle.treasury_state.specs.declared.record.Record.{Record}
 use Rattle.treasury_state.specs.declared.transfer.Part.{Part}
 use Rattle.treasury_state.specs.declared.transfer.Transfer.{Transfer}
@@ -33,7 +33,7 @@ use Rattle.treasury_state.specs.declared.delta.Addition.{Addition}
 use Rattle.treasury_state.specs.declared.delta.Addition.TheVariants as add
 use Rattle.treasury_state.specs.Federation.{Federation, is_branch_name, most_branches, has_branch, records_of, lock_of}
 use Rattle.treasury_state.specs.Federation.{entries, is_locked}
-use Rattle.treasury_state.specs.Mark.{held, is_held, is_repeat, is_product_mark, mark_of, alike, close_mark}
+use Rattle.treasury_state.specs.Mark.{held, is_held, is_repeat, is_product_mark, transaction_mark, alike, close_mark}
 use Rattle.treasury_state.specs.Transfer.{is_id, is_account_text, is_reserved, is_transit, dispatch_record}
 use Rattle.treasury_state.specs.Transfer.{receipt_record, all_key, is_key, receipts_of, left_of, transfer_at}
 use Rattle.treasury_state.specs.Joined.{with_style, with_branch, with_entered, with_locked, with_dispatched}
@@ -96,7 +96,7 @@ fault_on line (Err cause) = Some (Text (record { line = line; cause = cause }))
 -- the first one of a file
 abbrev pub unbalanced : List Style → List Located → Option Refusal
 unbalanced styles [] = None
-unbalanced styles (x ∷ xs) = option_or (fault_on x.line (legs_of styles x.txn)) (unbalanced styles xs)
+unbalanced styles (x ∷ xs) = option_or (fault_on x.line (balanced_entry styles x.txn)) (unbalanced styles xs)
 
 -- a transaction with its mark and its entry
 abbrev pub recorded : Txn → List ℕ → Result Entry Cause → List Record
@@ -109,7 +109,8 @@ number_in styles before t = alike styles (body_text styles t) before + 1
 
 -- the record of a transaction of a file, after the transactions before it
 abbrev pub recorded_in : List Style → List Txn → Txn → List Record
-recorded_in styles before t = recorded t (mark_of styles t (number_in styles before t) t.mark) (legs_of styles t)
+recorded_in styles before t =
+    recorded t (transaction_mark styles t (number_in styles before t) t.mark) (balanced_entry styles t)
 
 -- the records of a file, after the transactions before it
 abbrev pub records_from : List Style → List Txn → List Located → List Record
@@ -167,13 +168,13 @@ abbrev pub enter_refusal : Federation → List ℕ → List Located → Option R
 enter_refusal f name file = file_refusal f.styles (lock_of f name) (records_of f name) file
 
 -- the counts of new ones and of repeats
-abbrev pub entered : ℕ → ℕ → Answer
-entered new all = Entered new (all - new)
+abbrev pub entered_answer : ℕ → ℕ → Answer
+entered_answer new all = Entered new (all - new)
 
 abbrev pub enter_reply : Federation → List ℕ → List Located → Result Answer Refusal
 enter_reply f name file =
     if not (has_branch f name) then Err (Plain UnknownBranch)
-    else unless (entered (length (new_records f name file)) (length file)) (enter_refusal f name file)
+    else unless (entered_answer (length (new_records f name file)) (length file)) (enter_refusal f name file)
 
 -- ---- Dispatch
 

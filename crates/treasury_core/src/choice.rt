@@ -7,7 +7,7 @@ ghost use Rattle.std.specs.Str.{bytes_eq, str_to_ascii_lowercase};
 ghost use Rattle.book_core.specs.Account.{is_inside};
 ghost use Rattle.treasury_state.specs.Transfer.{is_account_text};
 ghost use Rattle.treasury_core.specs.Choice.{first_part, is_revenue_or_expense, is_among, is_selected, target_in};
-ghost use Rattle.treasury_core.specs.Choice.{listed, list_text, list_limit, holds_transit, choice_comments};
+ghost use Rattle.treasury_core.specs.Choice.{listed_names, list_text, list_limit, holds_transit, choice_comments};
 ghost use Rattle.treasury_core.specs.Choice.{choice_refusal};
 
 use book_core::{Refusal, is_inside};
@@ -119,7 +119,7 @@ pub(crate) fn target_of(choice: &Choice) -> &str
 
 /// The names that are listed.
 fn listed(choice: &Choice) -> &[Text]
-    ensures { result.now ≡ listed choice.now.accounts }
+    ensures { result.now ≡ listed_names choice.now.accounts }
 {
     match &choice.accounts {
         Some(names) => names.items(),

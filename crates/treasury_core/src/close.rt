@@ -6,7 +6,7 @@ ghost use Rattle.std.specs.Str.{bytes_eq};
 ghost use Rattle.std.specs.Result.{IsOkUnless};
 ghost use Rattle.journal_lines.specs.Date.{IsDayNumber};
 ghost use Rattle.journal_format.specs.Printable.{IsPrintable};
-ghost use Rattle.journal_balance.specs.Legs.{legs_of};
+ghost use Rattle.journal_balance.specs.Legs.{balanced_entry};
 ghost use Rattle.journal_balance.specs.Plain.{written_entry};
 ghost use Rattle.treasury_state.specs.Mark.{close_mark};
 ghost use Rattle.treasury_state.specs.Seen.{branch_of};
@@ -42,7 +42,7 @@ fn is_asked_again(alloc: Global, row: &Record, choice: &Choice) -> Result<bool, 
 fn closing_record(alloc: Global, styles: &Styles, day: Day, txn: Txn) -> Result<Record, Cause>
     requires day { IsDayNumber day }
     requires printable { IsPrintable styles.now txn }
-    requires written { legs_of styles.now txn ≡ Ok (written_entry txn) }
+    requires written { balanced_entry styles.now txn ≡ Ok (written_entry txn) }
     ensures value { IfOk result (λ row. row ≡ closing_record day txn) }
     ensures memory { IsOkUnless result Cause.OutOfMemory }
 {

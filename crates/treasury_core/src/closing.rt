@@ -8,10 +8,10 @@ ghost use Rattle.book_core.specs.Balance.{moved, value};
 ghost use Rattle.book_core.specs.GoodBook.{IsGoodBook, most_turnover};
 ghost use Rattle.journal_lines.specs.Date.{IsDayNumber};
 ghost use Rattle.journal_format.specs.Printable.{IsPrintable};
-ghost use Rattle.journal_balance.specs.Legs.{declared};
+ghost use Rattle.journal_balance.specs.Legs.{declared_commodities};
 ghost use Rattle.journal_balance.specs.Plain.{written_leg, written_legs};
 ghost use Rattle.treasury_core.specs.Choice.{is_selected, target_in, choice_comments};
-ghost use Rattle.treasury_core.specs.Closing.{selected, through, zero_claim, posting_of, closed_account};
+ghost use Rattle.treasury_core.specs.Closing.{selected, through, zero_claim, nonzero_posting, closed_account};
 ghost use Rattle.treasury_core.specs.Closing.{closing_postings, closing_txn, closing_of, closing_answer, closing_reply};
 
 use crate::choice::{Choice, choice_comments, choice_refusal, is_selected, target_of};
@@ -33,7 +33,7 @@ fn push_posting(
     claim: Option<Claim>,
     postings: &mut Items<Posting>,
 ) -> Result<(), Cause>
-    ensures ok { OnOk result (postings.new ≡ postings.old ++ posting_of account.now unit qty claim) }
+    ensures ok { OnOk result (postings.new ≡ postings.old ++ nonzero_posting account.now unit qty claim) }
     ensures memory { IsOkUnless result Cause.OutOfMemory }
 {
     if qty == 0 {
@@ -72,7 +72,7 @@ fn push_closed<L: Ledger>(
 ) -> Result<(), Cause>
     requires { IsGoodBook (L.book ledger.now) }
     ensures ok { OnOk result (postings.new
-        ≡ postings.old ++ posting_of account.now unit (pos 0 -ℤ through (L.book ledger.now) day account.now unit)
+        ≡ postings.old ++ nonzero_posting account.now unit (pos 0 -ℤ through (L.book ledger.now) day account.now unit)
         (Some (zero_claim unit))) }
     ensures memory { IsOkUnless result Cause.OutOfMemory }
 {
@@ -91,7 +91,7 @@ fn close_account<L: Ledger>(
 ) -> Result<(), Cause>
     requires { IsGoodBook (L.book ledger.now) }
     ensures ok { OnOk result (postings.new
-        ≡ postings.old ++ closed_account (L.book ledger.now) day (declared styles.now) account.now) }
+        ≡ postings.old ++ closed_account (L.book ledger.now) day (declared_commodities styles.now) account.now) }
     ensures memory { IsOkUnless result Cause.OutOfMemory }
 {
     'units: for number in 0..styles.len() {
@@ -116,7 +116,7 @@ fn close_accounts<L: Ledger>(
 ) -> Result<Items<Posting>, Cause>
     requires { IsGoodBook (L.book ledger.now) }
     ensures value { IfOk result (λ list. list
-        ≡ flat_map (closed_account (L.book ledger.now) day (declared styles.now))
+        ≡ flat_map (closed_account (L.book ledger.now) day (declared_commodities styles.now))
         (selected (is_selected choice.now.accounts) (L.book ledger.now))) }
     ensures memory { IsOkUnless result Cause.OutOfMemory }
 {
@@ -162,8 +162,9 @@ fn gaining_account(
 ) -> Result<Items<Posting>, Cause>
     requires { (unit : Commodity) → moved unit (written_legs closed.now) ≤ most_turnover }
     ensures value { IfOk result (λ list. list
-        ≡ flat_map (λ (unit : Commodity). posting_of into.now unit (pos 0 -ℤ value unit (written_legs closed.now)) None)
-        (declared styles.now)) }
+        ≡ flat_map
+        (λ (unit : Commodity). nonzero_posting into.now unit (pos 0 -ℤ value unit (written_legs closed.now)) None)
+        (declared_commodities styles.now)) }
     ensures memory { IsOkUnless result Cause.OutOfMemory }
 {
     let mut postings = Items::empty(alloc);
@@ -186,7 +187,7 @@ fn closing_postings<L: Ledger>(
     requires { IsGoodBook (L.book ledger.now) }
     ensures value { IfOk result (λ list. list
         ≡ closing_postings (L.book ledger.now) day (target_in choice.now.into)
-        (selected (is_selected choice.now.accounts) (L.book ledger.now)) (declared styles.now)) }
+        (selected (is_selected choice.now.accounts) (L.book ledger.now)) (declared_commodities styles.now)) }
     ensures memory { IsOkUnless result Cause.OutOfMemory }
 {
     let closed = close_accounts(alloc, ledger, styles, day, choice)?;

@@ -7,8 +7,8 @@ ghost use Rattle.std.specs.Global.{Vec as Bytes};
 ghost use Rattle.journal_format.specs.declared.txn.Txn.{Txn as Transaction};
 ghost use Rattle.journal_format.specs.CanonicalText.{marked};
 ghost use Rattle.journal_format.specs.Printable.{IsPrintable};
-ghost use Rattle.journal_balance.specs.Legs.{legs_of};
-ghost use Rattle.treasury_state.specs.Mark.{hash_mark, mark_of};
+ghost use Rattle.journal_balance.specs.Legs.{balanced_entry};
+ghost use Rattle.treasury_state.specs.Mark.{hash_mark, transaction_mark};
 ghost use Rattle.treasury_core.specs.Step.{number_in, fault_on, unbalanced, recorded, recorded_in, records_in_file};
 ghost use Rattle.treasury_core.specs.Fits.{IsFile};
 ghost use Rattle.treasury_core.specs.Counted.{count_of, counted_more, AreCounted};
@@ -54,7 +54,8 @@ fn mark_in_file(
     requires printable { IsPrintable styles.now txn.now }
     requires few { (text : Bytes ℕ) → count_of counts.old text + 1 < 2 ^ 64 }
     ensures value { (before : List Transaction) → AreCounted styles.now counts.old before
-        → IfOk result (λ mark. mark ≡ mark_of styles.now txn.now (number_in styles.now before txn.now) txn.now.mark) }
+        → IfOk result (λ mark. mark
+        ≡ transaction_mark styles.now txn.now (number_in styles.now before txn.now) txn.now.mark) }
     ensures counted { (before : List Transaction) → AreCounted styles.now counts.old before
         → OnOk result (AreCounted styles.now counts.new (before ++ txn.now ∷ [])) }
     ensures memory { IsOkUnless result Cause.OutOfMemory }
@@ -101,12 +102,12 @@ fn record_in_file(
     requires few { (text : Bytes ℕ) → count_of counts.old text + 1 < 2 ^ 64 }
     ensures value { (before : List Transaction) → AreCounted styles.now counts.old before
         → IfOk result (λ row. row ∷ [] ≡ recorded_in styles.now before located.now.txn) }
-    ensures balanced { OnOk result (fault_on located.now.line (legs_of styles.now located.now.txn) ≡ None) }
+    ensures balanced { OnOk result (fault_on located.now.line (balanced_entry styles.now located.now.txn) ≡ None) }
     ensures counted { (before : List Transaction) → AreCounted styles.now counts.old before
         → OnOk result (AreCounted styles.now counts.new (before ++ located.now.txn ∷ [])) }
     ensures err { IfErr result (λ e.
         (e ≡ Refusal.Plain Cause.OutOfMemory)
-        ⊎ (fault_on located.now.line (legs_of styles.now located.now.txn) ≡ Some e)) }
+        ⊎ (fault_on located.now.line (balanced_entry styles.now located.now.txn) ≡ Some e)) }
 {
     let entry = match legs(alloc, &located.txn, styles) {
         Ok(entry) => entry,

@@ -33,7 +33,7 @@ use Rattle.money_core.specs.declared.cause.Cause.{Cause}
 use Rattle.money_core.specs.declared.cause.Cause.TheVariants.{OutOfMemory, Store as Failed, Damaged}
 use Rattle.treasury_tables.specs.Tables.{store_schema, first_schema}
 use Rattle.treasury_tables.specs.Creating.{has_one, has_receipt}
-use Rattle.treasury_tables.specs.Opening.{AreOursAlone, IsFirst, IsSecond, IsEither}
+use Rattle.treasury_tables.specs.Opening.{AreOursAlone, IsFirstVersion, IsSecond, IsEither}
 use Rattle.treasury_tables.specs.Judging.{ReadsFirst}
 use Rattle.treasury_tables.specs.Upgrading.{KeepsOurs}
 use Rattle.treasury_tables.specs.Kept.{KeepsTables, StaysAsIs}
@@ -73,7 +73,8 @@ either_has_one db t (inr first) = ap has_one first.schema ∙ first_one
 either_one : (db : Database) (t : Tables) → HoldsEither db t → has_one db.schema ≡ false → ⊥
 either_one db t holds free = true≢false (sym (either_has_one db t holds) ∙ free)
 
-pub either_ours : (db : Database) (t : Tables) → HoldsEither db t → AreOursAlone db.schema × (IsFirst db ⊎ IsSecond db)
+pub either_ours : (db : Database) (t : Tables) → HoldsEither db t → AreOursAlone db.schema
+    × (IsFirstVersion db ⊎ IsSecond db)
 either_ours db t (inl second) =
     (ours_second db.schema second.shows.schema, inr (record { schema = second.shows.schema; version = second.format }))
 either_ours db t (inr first) =
@@ -262,7 +263,7 @@ module _ {D : Type 0} (g : disk.Ghosts D) where
         → is_first ≡ false ↔ has_receipt (file_state opened).now.schema ≡ true
         → (cause ≡ Damaged) ⊎ ((cause ≡ OutOfMemory) ⊎ (cause ≡ Failed))
         → (cause ≡ Damaged → HasCleanDisk (file_state refused) → AreOursAlone (file_state opened).now.schema
-        → IsFirst (file_state opened).now ⊎ IsSecond (file_state opened).now → ⊥)
+        → IsFirstVersion (file_state opened).now ⊎ IsSecond (file_state opened).now → ⊥)
         → KeepsOurs over_files opened refused → LeavesSame over_files opened refused
         → LeavesEitherVersion over_files opened refused
         → IsAsked g refused cause last → IsLeftRefused last cause is_first left → KeepsFile g image left

@@ -22,7 +22,7 @@ use Rattle.treasury_tables.specs.Rows.{Tables, HoldsTables, HoldsEither, ShowsTa
 use Rattle.treasury_tables.specs.Kept.{KeepsTables, StaysAsIs}
 use Rattle.treasury_tables.specs.Tables.{no_schema, store_schema}
 use Rattle.treasury_tables.specs.Creating.{has_one, has_all, has_receipt}
-use Rattle.treasury_tables.specs.Opening.{AreOursAlone, IsFirst, IsFirstNumbered, IsSecond}
+use Rattle.treasury_tables.specs.Opening.{AreOursAlone, IsFirstVersion, IsFirstNumbered, IsSecond}
 use Rattle.treasury_tables.specs.Upgrading.{Upgrades}
 use Rattle.treasury_tables.proofs.OpenLemmas.{ours_second, not_first, second_more}
 use Rattle.treasury_store.specs.declared.store.Store.{Store}
@@ -50,12 +50,12 @@ module _ {D : Type 0} (g : disk.Ghosts D) where
   pub had_treasury : (opened : Held (FileStore D g)) (s : Store (FileStore D g)) (t : Treasury (FileStore D g))
       → IsTrue (has_all (file_state opened).now.schema)
       → (HasCleanDisk (file_state s.conn) → AreOursAlone (file_state opened).now.schema
-      → IsFirst (file_state opened).now ⊎ IsSecond (file_state opened).now)
+      → IsFirstVersion (file_state opened).now ⊎ IsSecond (file_state opened).now)
       → (HasCleanDisk (file_state s.conn) → IsFirstNumbered (file_state opened).now
       → Upgrades (file_state opened).now (file_state s.conn).now
       × ((file_state s.conn).committed ≡ (file_state s.conn).now))
       → (HasCleanDisk (file_state s.conn) → AreOursAlone (file_state opened).now.schema
-      → (IsFirst (file_state opened).now → ⊥)
+      → (IsFirstVersion (file_state opened).now → ⊥)
       → ((file_state s.conn).now ≡ (file_state opened).now)
       × ((file_state s.conn).committed ≡ (file_state opened).committed))
       → KeepsTables over_files s.conn t.store.conn

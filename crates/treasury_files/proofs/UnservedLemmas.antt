@@ -11,7 +11,7 @@ use Rattle.money_core.specs.declared.cause.Cause.TheVariants.{Damaged}
 use Rattle.treasury_state.specs.Federation.{Federation}
 use Rattle.treasury_state.specs.Good.{IsGoodState}
 use Rattle.treasury_state.specs.Rows.{rows}
-use Rattle.treasury_tables.specs.Opening.{AreOursAlone, IsFirst, IsSecond}
+use Rattle.treasury_tables.specs.Opening.{AreOursAlone, IsFirstVersion, IsSecond}
 use Rattle.treasury_tables.specs.Judging.{ReadsFirst}
 use Rattle.treasury_tables.specs.Rows.{Tables, HoldsEither}
 use Rattle.treasury_store.specs.Store.{TablesAreWhileOpen}
@@ -80,7 +80,7 @@ module _ {D : Type 0} (g : disk.Ghosts D) where
       (left : Left D g) → IsOpenedOn g image opened → cause ≡ Damaged
       → (HasCleanDisk (file_state refused) → HasCleanDisk (file_state opened))
       → (cause ≡ Damaged → HasCleanDisk (file_state refused) → AreOursAlone (file_state opened).now.schema
-      → IsFirst (file_state opened).now ⊎ IsSecond (file_state opened).now → ⊥)
+      → IsFirstVersion (file_state opened).now ⊎ IsSecond (file_state opened).now → ⊥)
       → IsAsked g refused cause last → IsLeftRefused last cause is_first left → HasNoTreasury g image left
   none_opened image opened refused last cause is_first left on is first damaged asked left_as =
       none_shown image opened left on (λ clean. first (before clean)) (λ clean f holds held.

@@ -18,7 +18,7 @@ use Rattle.treasury_state.specs.Rows.{rows}
 use Rattle.treasury_tables.specs.Rows.{HoldsTables, HoldsEither, ShowsTables}
 use Rattle.treasury_tables.specs.Tables.{no_schema}
 use Rattle.treasury_tables.specs.Creating.{has_one, has_all}
-use Rattle.treasury_tables.specs.Opening.{AreOursAlone, IsFirst, IsFirstNumbered, IsSecond}
+use Rattle.treasury_tables.specs.Opening.{AreOursAlone, IsFirstVersion, IsFirstNumbered, IsSecond}
 use Rattle.treasury_tables.specs.Upgrading.{Upgrades}
 use Rattle.treasury_store.specs.Store.{empty_state}
 use Rattle.treasury_files.specs.declared.left.Left.{Left}
@@ -46,7 +46,7 @@ ShowsGoodRows db = (f : Federation) × IsGoodState f × ShowsTables db (rows f)
 -- the row of `format` is an integer, as SQLite has no others.
 pub record HasTreasury (db : Database) : Type 0 where
   pub named : IsTrue (has_all db.schema)
-  pub version : AreOursAlone db.schema → IsFirst db ⊎ IsSecond db
+  pub version : AreOursAlone db.schema → IsFirstVersion db ⊎ IsSecond db
   pub second : IsSecond db → ShowsGoodRows db
   pub first : IsFirstNumbered db → (next : Database) × Upgrades db next × ShowsGoodRows next
 

@@ -19,7 +19,7 @@ use Rattle.journal_format.specs.declared.txn.Located.{Located}
 use Rattle.treasury_state.specs.Federation.{Federation, has_branch, records_of, lock_of, entries, book_of}
 use Rattle.treasury_core.specs.declared.command.Answer.{Answer}
 use Rattle.treasury_core.specs.declared.command.Command.TheVariants.{Enter}
-use Rattle.treasury_core.specs.Step.{unless, entered, unbalanced, refused_in, records_in_file, new_records}
+use Rattle.treasury_core.specs.Step.{unless, entered_answer, unbalanced, refused_in, records_in_file, new_records}
 use Rattle.treasury_core.specs.Step.{enter_refusal, reply, after}
 use Rattle.treasury_core.specs.Run.{Replies}
 use Rattle.treasury_core.proofs.ReplyLemmas.{file_accepted}
@@ -75,7 +75,7 @@ replied_by : (f : Federation) (name : List ℕ) (file : List Located) (refusal :
     → reply f (Enter name file) ≡ Err refusal
 unfolding reply
 replied_by f name file refusal there h =
-    let answer = entered (length (new_records f name file)) (length file) in
+    let answer = entered_answer (length (new_records f name file)) (length file) in
     ap (λ (t : Bool). if not t then Err (Plain UnknownBranch) else unless answer (enter_refusal f name file)) there ∙ ap
     (unless answer) h
 

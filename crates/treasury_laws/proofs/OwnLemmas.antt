@@ -23,17 +23,17 @@ use Rattle.journal_format.specs.Pieces.{Reads}
 use Rattle.journal_format.specs.Printable.{IsPrintable, FitsText, located_from}
 use Rattle.journal_format.proofs.JournalLemmas.{lists_read_back}
 use Rattle.journal_format.proofs.FaultLemmas.{one_list}
-use Rattle.journal_balance.specs.Legs.{legs_of}
+use Rattle.journal_balance.specs.Legs.{balanced_entry}
 use Rattle.treasury_state.specs.declared.record.Record.{Record}
 use Rattle.treasury_state.specs.Federation.{Federation, has_branch, records_of, lock_of, entries, book_of, txns_in}
-use Rattle.treasury_state.specs.Mark.{is_repeat, mark_of}
+use Rattle.treasury_state.specs.Mark.{is_repeat, transaction_mark}
 use Rattle.treasury_state.specs.Joined.{with_entered}
 use Rattle.treasury_state.specs.Good.{IsGoodRecord, IsGoodState}
 use Rattle.treasury_state.proofs.BranchLemmas.{of_branch}
 use Rattle.treasury_core.specs.declared.command.Answer.{Answer}
 use Rattle.treasury_core.specs.declared.command.Answer.TheVariants.{Done, Entered, Repeated}
 use Rattle.treasury_core.specs.declared.command.Command.TheVariants as cmd
-use Rattle.treasury_core.specs.Step.{unless, reply, done, after, step, entered, number_in, fault_on, unbalanced}
+use Rattle.treasury_core.specs.Step.{unless, reply, done, after, step, entered_answer, number_in, fault_on, unbalanced}
 use Rattle.treasury_core.specs.Step.{recorded, records_from, records_in_file, refused_in, new_in, new_records}
 use Rattle.treasury_core.specs.Step.{enter_refusal}
 use Rattle.treasury_core.specs.declared.command.Command.TheVariants.{Enter}
@@ -55,20 +55,20 @@ among_any p (x ∷ xs) r e (inr a) = ap (λ (t : Bool). p x || t) (among_any p x
 
 -- the record of a record's transaction is that record
 recorded_again : (styles : List Style) (r : Record) (n : ℕ) → IsGoodRecord styles r
-    → recorded r.txn (mark_of styles r.txn n r.txn.mark) (legs_of styles r.txn) ≡ r ∷ []
+    → recorded r.txn (transaction_mark styles r.txn n r.txn.mark) (balanced_entry styles r.txn) ≡ r ∷ []
 recorded_again styles r n good =
-    let mark : mark_of styles r.txn n r.txn.mark ≡ r.mark =
-    ap (λ (o : Option (List ℕ)). mark_of styles r.txn n o) good.marked in
-    ap (λ (m : List ℕ). recorded r.txn m (legs_of styles r.txn)) mark
+    let mark : transaction_mark styles r.txn n r.txn.mark ≡ r.mark =
+    ap (λ (o : Option (List ℕ)). transaction_mark styles r.txn n o) good.marked in
+    ap (λ (m : List ℕ). recorded r.txn m (balanced_entry styles r.txn)) mark
     ∙ (ap (λ (e : Result Entry Cause). recorded r.txn r.mark e) good.legs
     ∙ ap (λ (o : Option (List ℕ)). let s : Record =
     record { mark = r.mark; txn = record r.txn { mark = o }; entry = r.entry } in s ∷ []) (sym good.marked))
 
 pub recorded_own : (styles : List Style) (rs : List Record) (x : Located) (n : ℕ)
     → AllByRecursion (IsGoodRecord styles) rs → (own : IsOwn rs x)
-    → recorded x.txn (mark_of styles x.txn n x.txn.mark) (legs_of styles x.txn) ≡ own.holder ∷ []
+    → recorded x.txn (transaction_mark styles x.txn n x.txn.mark) (balanced_entry styles x.txn) ≡ own.holder ∷ []
 recorded_own styles rs x n good own =
-    ap (λ (t : Txn). recorded t (mark_of styles t n t.mark) (legs_of styles t)) own.same
+    ap (λ (t : Txn). recorded t (transaction_mark styles t n t.mark) (balanced_entry styles t)) own.same
     ∙ recorded_again styles own.holder n (among_all (IsGoodRecord styles) rs own.holder own.among good)
 
 among_file : (styles : List Style) (rs : List Record) (before : List Txn) (file : List Located)
@@ -85,8 +85,8 @@ pub balanced_own : (styles : List Style) (rs : List Record) (file : List Located
     → AllByRecursion (IsGoodRecord styles) rs → IsOwnJournal rs file → unbalanced styles file ≡ None
 balanced_own styles rs [] good own = refl
 balanced_own styles rs (x ∷ xs) good own =
-    let fine : legs_of styles x.txn ≡ Ok own.0.holder.entry =
-    ap (legs_of styles) own.0.same ∙ (among_all (IsGoodRecord styles) rs own.0.holder own.0.among good).legs in
+    let fine : balanced_entry styles x.txn ≡ Ok own.0.holder.entry =
+    ap (balanced_entry styles) own.0.same ∙ (among_all (IsGoodRecord styles) rs own.0.holder own.0.among good).legs in
     ap (λ (e : Result Entry Cause). option_or (fault_on x.line e) (unbalanced styles xs)) fine ∙ balanced_own styles rs
     xs good own.1
 
@@ -107,7 +107,7 @@ none_new rs (r ∷ file) h =
     rw (among_any (λ (x : Record). bytes_eq x.mark r.mark) rs r (bytes_eq-refl r.mark) h.0) (none_new rs file h.1)
 
 abbrev answer_of : List Record → ℕ → Option Refusal → Result Answer Refusal
-answer_of new n o = unless (entered (length new) n) o
+answer_of new n o = unless (entered_answer (length new) n) o
 
 pub own_reply : (f : Federation) (name : List ℕ) (file : List Located) → IsGoodState f → has_branch f name ≡ true
     → IsOwnJournal (records_of f name) file → reply f (cmd.Enter name file) ≡ Ok (Entered 0 (length file))
@@ -129,7 +129,7 @@ own_reply f name file good here own =
       none_refused f.styles (lock_of f name) rs (records_in_file f.styles file) among,
     ) passes in
     ap (λ (t : Bool). if not t then Err (Plain UnknownBranch)
-    else unless (entered (length (new_records f name file)) (length file)) (enter_refusal f name file)) here
+    else unless (entered_answer (length (new_records f name file)) (length file)) (enter_refusal f name file)) here
     ∙ (ap (λ (o : Option Refusal). answer_of (new_records f name file) (length file) o) refusal
     ∙ (ap (λ (xs : List Record). answer_of xs (length file) None) none
     ∙ ap (λ (n : ℕ). let r : Result Answer Refusal = Ok (Entered 0 n) in r) (omega arith)))

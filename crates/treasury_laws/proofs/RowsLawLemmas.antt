@@ -19,7 +19,7 @@ use Rattle.journal_format.specs.declared.txn.Located.{Located}
 use Rattle.journal_format.specs.CanonicalText.{body_text, marked}
 use Rattle.journal_format.specs.Pieces.{located}
 use Rattle.journal_format.proofs.FaultLemmas.{one_list}
-use Rattle.journal_balance.specs.Legs.{legs_of}
+use Rattle.journal_balance.specs.Legs.{balanced_entry}
 use Rattle.treasury_state.specs.declared.record.Record.{Record}
 use Rattle.treasury_state.specs.declared.rows.UnitRow.{UnitRow}
 use Rattle.treasury_state.specs.declared.rows.BranchRow.{BranchRow}
@@ -116,7 +116,7 @@ same_record styles are b n r s good other e =
     record_only styles b n (entry_row styles b n s) (marked s.txn None) s.mark s.mark s.entry
     (reads_of styles are b n s other) refl
     (λ x h. same_entry x s.entry (sym h ∙
-    (ap (λ (o : Option (List ℕ)). legs_of styles (marked s.txn o)) (sym other.marked) ∙ other.legs))) r (good, e)
+    (ap (λ (o : Option (List ℕ)). balanced_entry styles (marked s.txn o)) (sym other.marked) ∙ other.legs))) r (good, e)
     ∙ ap (λ (o : Option (List ℕ)). let x : Record =
     record { mark = s.mark; txn = marked s.txn o; entry = s.entry } in x) (sym other.marked)
 

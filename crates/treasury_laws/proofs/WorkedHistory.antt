@@ -2,7 +2,7 @@
 use Rattle.std.proofs.Common.{◌≡◌, refl, [], ◌∷◌, pos, None, Ok}
 use Rattle.std.specs.Prelude.{codes}
 use Rattle.book_core.specs.declared.refusal.Refusal.{Refusal}
-use Rattle.journal_balance.specs.Legs.{balancing_fault, legs_of}
+use Rattle.journal_balance.specs.Legs.{balancing_fault, balanced_entry}
 use Rattle.treasury_state.specs.declared.record.Record.{Record}
 use Rattle.treasury_state.specs.declared.delta.Addition.TheVariants as add
 use Rattle.treasury_state.specs.Federation.{Federation}
@@ -25,7 +25,7 @@ among a b c d = (refl, refl, refl)
 
 pub run : (refusal : Refusal) → (state_after (federation None []) (turns refusal) ≡ federation None (stated ∷ []))
     × (history (federation None []) (turns refusal) ≡ add.Record (codes "north") stated ∷ [])
-unfolding done added balancing_fault legs_of
+unfolding done added balancing_fault balanced_entry
 run refusal = (refl, refl)
 
 -- What the headline says of them: at the end income is at zero. The closing left the bank as it was, and the last turn

@@ -22,7 +22,7 @@ ghost use Rattle.journal_format.specs.declared.txn.Txn.{Txn};
 ghost use Rattle.journal_format.specs.Pieces.{Reads, posting_limit};
 ghost use Rattle.journal_format.specs.CanonicalText.{journal_text};
 ghost use Rattle.journal_format.specs.Printable.{FitsText, IsPrintable, located_from};
-ghost use Rattle.journal_balance.specs.Legs.{legs_of};
+ghost use Rattle.journal_balance.specs.Legs.{balanced_entry};
 ghost use Rattle.journal_balance.specs.Plain.{written_entry};
 ghost use Rattle.treasury_state.specs.declared.record.Record.{Record};
 ghost use Rattle.treasury_state.specs.Federation.{Federation, has_branch, records_of, lock_of, entries, book_of};
@@ -203,7 +203,7 @@ pub fn rows_law()
 /// choice is not refused, and within the limit of postings, it can be printed. Costs nothing.
 pub fn closing_law()
     ensures entry { (select : List ℕ → Bool) (into : List ℕ) (f : Federation) (name : List ℕ) (day : Day) (t : Txn)
-        → IsClosing select into f name day t → legs_of f.styles t ≡ Ok (written_entry t) }
+        → IsClosing select into f name day t → balanced_entry f.styles t ≡ Ok (written_entry t) }
     ensures printable { (f : Federation) (name : List ℕ) (day : Day) (c : Choice) (t : Txn) → IsGoodState f
         → IsDayNumber day → choice_refusal c ≡ None
         → closing_in f name day c ≡ Some t → length t.postings ≤ posting_limit → IsPrintable f.styles t }

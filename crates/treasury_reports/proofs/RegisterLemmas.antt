@@ -38,7 +38,7 @@ use Rattle.treasury_reports.specs.RegisterReport.{listed_leg, listed_legs, liste
 use Rattle.treasury_reports.specs.RegisterReport.{legs_in, is_wanted}
 use Rattle.treasury_reports.specs.declared.layout.Layout.{Layout}
 use Rattle.treasury_reports.specs.Layout.{register_piece, register_pieces}
-use Rattle.treasury_reports.specs.Lent.{IsListable, HaveRoom, sum_at, AreSums}
+use Rattle.treasury_reports.specs.Lent.{IsListable, HaveRoom, sum_at, AreSumsOfListed}
 use Rattle.treasury_reports.proofs.SortLemmas.{all_by_day}
 
 -- ---- the records of a good state
@@ -258,8 +258,8 @@ other_unit a b e = grind (arith, nat_tests)
 
 pub sums_next : (styles : List Style) (sums next : List ℤ) (before : List Listed) (x : Listed) (s : ℤ)
     → next ≡ set sums x.leg.unit.0 s → length sums ≡ length styles → x.leg.unit.0 < length styles
-    → s ≡ value x.leg.unit (legs_in (before ++ x ∷ [])) → AreSums styles sums before
-    → AreSums styles next (before ++ x ∷ [])
+    → s ≡ value x.leg.unit (legs_in (before ++ x ∷ [])) → AreSumsOfListed styles sums before
+    → AreSumsOfListed styles next (before ++ x ∷ [])
 sums_next styles sums next before x s e wide known is h unit below = by_unit (nat_eq x.leg.unit.0 unit.0) refl
   where
     by_unit : (b : Bool) → nat_eq x.leg.unit.0 unit.0 ≡ b → sum_at next unit ≡ value unit (legs_in (before ++ x ∷ []))

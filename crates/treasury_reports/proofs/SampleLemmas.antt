@@ -14,7 +14,7 @@ use Rattle.money_core.specs.declared.style.Style.{Style}
 use Rattle.money_core.specs.Mark.{decimal_byte, group_byte}
 use Rattle.money_core.specs.Number.{fraction_part}
 use Rattle.money_core.specs.NumberText.{WritesQuantity}
-use Rattle.money_core.specs.Symbol.{is_symbol, is_bare, is_quoted_byte, in_quotes, is_short, no_double}
+use Rattle.money_core.specs.Symbol.{is_symbol, is_bare, is_quoted_byte, in_quotes, is_short_symbol, no_double}
 use Rattle.money_core.specs.Symbol.{has_no_outer_space, WritesSymbol}
 use Rattle.money_core.specs.Printed.{printed_whole, grouped, places}
 use Rattle.money_core.specs.Amount.{Parts, IsLeftAmount, IsRightAmount, limit}

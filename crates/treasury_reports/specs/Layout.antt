@@ -28,22 +28,22 @@ abbrev pub comma_row : List (List ℕ) → List ℕ
 comma_row cells = codes "," ++ strings_text cells
 
 -- its line, or its cells
-abbrev pub written : Layout → List ℕ → List (List ℕ) → List ℕ
-written Text line cells = line
-written Json line cells = comma_row cells
+abbrev pub layout_text : Layout → List ℕ → List (List ℕ) → List ℕ
+layout_text Text line cells = line
+layout_text Json line cells = comma_row cells
 
 abbrev pub account_piece : Layout → List ℕ → List ℕ
-account_piece layout account = written layout (account_line account) (account_cells account)
+account_piece layout account = layout_text layout (account_line account) (account_cells account)
 
 abbrev pub sample_piece : Layout → Style → List ℕ
-sample_piece layout s = written layout (sample_line s) (sample_cells s)
+sample_piece layout s = layout_text layout (sample_line s) (sample_cells s)
 
 abbrev pub branch_piece : Layout → Branch → List ℕ
-branch_piece layout b = written layout (branch_line b) (branch_cells b)
+branch_piece layout b = layout_text layout (branch_line b) (branch_cells b)
 
 -- one transfer, where something of it is open through the day
 abbrev pub transfer_piece : Layout → List Style → Day → Transfer → List ℕ
-transfer_piece layout styles day t = written layout (transfer_line styles day t) (transfer_cells styles day t)
+transfer_piece layout styles day t = layout_text layout (transfer_line styles day t) (transfer_cells styles day t)
 
 abbrev pub pending_piece : Layout → List Style → Day → Transfer → List ℕ
 pending_piece layout styles day t = if is_pending day t then transfer_piece layout styles day t else []
@@ -66,7 +66,7 @@ book_pieces layout styles entries day = flat_map (account_pieces layout styles e
 
 -- what is open between two branches in a commodity, and so of all
 abbrev pub open_piece : Layout → Federation → Day → List ℕ → List ℕ → Commodity → List ℕ
-open_piece layout f day from to unit = written layout (open_line f day from to unit) (open_cells f day from to unit)
+open_piece layout f day from to unit = layout_text layout (open_line f day from to unit) (open_cells f day from to unit)
 
 abbrev pub transit_piece : Layout → Federation → Day → List ℕ → List ℕ → Commodity → List ℕ
 transit_piece layout f day from to unit =
@@ -83,7 +83,7 @@ transit_pieces layout f day = flat_map (pieces_from layout f day) (branch_names 
 
 -- a listed leg, and those after others
 abbrev pub register_piece : Layout → List Style → Listed → ℤ → List ℕ
-register_piece layout styles x sum = written layout (register_line styles x sum) (register_cells styles x sum)
+register_piece layout styles x sum = layout_text layout (register_line styles x sum) (register_cells styles x sum)
 
 abbrev pub register_pieces : Layout → List Style → List Listed → List Listed → List ℕ
 register_pieces layout styles before [] = []

@@ -37,6 +37,6 @@ abbrev pub sum_at : List ℤ → Commodity → ℤ
 sum_at sums unit = slice_index_or sums unit.0 (pos 0)
 
 -- a table has the sums of what was listed, in the declared commodities
-abbrev pub AreSums : List Style → List ℤ → List Listed → Type 0
-AreSums styles sums before =
+abbrev pub AreSumsOfListed : List Style → List ℤ → List Listed → Type 0
+AreSumsOfListed styles sums before =
     (unit : Commodity) → unit.0 < length styles → sum_at sums unit ≡ value unit (legs_in before)

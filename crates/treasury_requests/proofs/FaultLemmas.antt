@@ -9,12 +9,12 @@ use Rattle.std.specs.Str.{IsUtf8, IsValidUpTo}
 use Rattle.std.specs.Prelude.{is_some, codes}
 use Rattle.serde_json.specs.Data.{Data, null, boolean, number, string, array, object}
 use Rattle.serde_json.specs.Find.{get, as_object, as_str}
-use Rattle.treasury_requests.specs.Words.{has_name, all_words}
+use Rattle.treasury_requests.specs.Words.{is_word_named, all_words}
 use Rattle.serde_json.specs.Read.{read}
 use Rattle.serde_json.specs.View.{members_view}
 use Rattle.serde_json.specs.declared.value.Value.{Value}
-use Rattle.treasury_requests.specs.RequestFault.{names_in, is_other, is_other_string}
-use Rattle.treasury_requests.specs.RequestFault.{value_fault, do_fault, word_fault, IsFirstFault}
+use Rattle.treasury_requests.specs.RequestFault.{names_in, is_other_key, is_other_string}
+use Rattle.treasury_requests.specs.RequestFault.{value_fault, do_fault, word_fault, IsFirstRequestFault}
 use Rattle.treasury_requests.specs.Request.{spelled, request_of}
 use Rattle.treasury_requests.specs.declared.request.Spelled.{Spelled}
 use Rattle.treasury_requests.specs.declared.fault.RequestFault.{RequestFault}
@@ -29,20 +29,21 @@ first_of true k found rest e = refl
 first_of false k found rest e = e
 
 pub find-names_in : (w : Word) (es : List (String Global × Value))
-    → find (is_other w) (names_in (members_view es)) ≡ option_map string_bytes (find (is_other_string w) (keys_of es))
+    → find (is_other_key w) (names_in (members_view es)) ≡ option_map string_bytes
+    (find (is_other_string w) (keys_of es))
 find-names_in w [] = refl
-find-names_in w (e ∷ es) = first_of (is_other w (string_bytes e.0)) e.0 _ _ (find-names_in w es)
+find-names_in w (e ∷ es) = first_of (is_other_key w (string_bytes e.0)) e.0 _ _ (find-names_in w es)
 
 -- bytes that are JSON of a request
 pub is_request : (bytes : List ℕ) (d : Data) (s : Spelled) → IsUtf8 bytes → read bytes ≡ Some d
-    → request_of d ≡ Some s → IsFirstFault bytes None
+    → request_of d ≡ Some s → IsFirstRequestFault bytes None
 is_request bytes d s text found is =
     let spells : spelled bytes ≡ Some s = spelled-utf8 bytes text ∙ ap (option_and_then request_of) found ∙ is in
     subst IsSome (sym spells) refl
 
 -- bytes that are JSON of no request
 pub has_value_fault : (bytes : List ℕ) (d : Data) (fault : RequestFault) → IsUtf8 bytes → read bytes ≡ Some d
-    → request_of d ≡ None → fault ≡ value_fault d → IsFirstFault bytes (Some fault)
+    → request_of d ≡ None → fault ≡ value_fault d → IsFirstRequestFault bytes (Some fault)
 has_value_fault bytes d fault text found none is = record {
   no_request = spelled-utf8 bytes text ∙ ap (option_and_then request_of) found ∙ none;
   no_utf8 = λ lacks. absurd (lacks text);
@@ -52,7 +53,7 @@ has_value_fault bytes d fault text found none is = record {
 
 -- text that is no JSON
 pub has_json_fault : (bytes : List ℕ) (line byte : ℕ) (cut : Bool) → IsUtf8 bytes → read bytes ≡ None
-    → IsFirstFault bytes (Some (by.NotJson line byte cut))
+    → IsFirstRequestFault bytes (Some (by.NotJson line byte cut))
 has_json_fault bytes line byte cut text none = record {
   no_request = spelled-utf8 bytes text ∙ ap (option_and_then request_of) none;
   no_utf8 = λ lacks. absurd (lacks text);
@@ -62,7 +63,7 @@ has_json_fault bytes line byte cut text none = record {
 
 -- bytes that are no text
 pub has_utf8_fault : (bytes : List ℕ) (n : ℕ) → (IsUtf8 bytes → ⊥) → IsValidUpTo bytes n
-    → IsFirstFault bytes (Some (by.NotUtf8 (n + 1)))
+    → IsFirstRequestFault bytes (Some (by.NotUtf8 (n + 1)))
 has_utf8_fault bytes n lacks valid = record {
   no_request = spelled-no_utf8 bytes lacks;
   no_utf8 = λ _. (n, valid, refl);
@@ -81,11 +82,11 @@ value_fault-object (object ms) e = refl
 
 -- and that of a text at `do` is that of the word
 pub do_fault-text : (d said : Data) (text : List ℕ) → as_str said ≡ Some text
-    → do_fault d (Some said) ≡ word_fault d text (find (has_name text) all_words)
+    → do_fault d (Some said) ≡ word_fault d text (find (is_word_named text) all_words)
 do_fault-text d null text e = cc
 do_fault-text d (boolean b) text e = cc
 do_fault-text d (number n) text e = cc
 do_fault-text d (string s) text e =
-    (let same : s ≡ text = cc in ap (λ it. word_fault d it (find (has_name it) all_words)) same)
+    (let same : s ≡ text = cc in ap (λ it. word_fault d it (find (is_word_named it) all_words)) same)
 do_fault-text d (array ds) text e = cc
 do_fault-text d (object ms) text e = cc

@@ -26,27 +26,28 @@ use Rattle.treasury_requests.specs.declared.request.form.Form.TheVariants.{Accou
 use Rattle.treasury_requests.specs.declared.request.form.Form.TheVariants.{Transfers as TransfersForm}
 
 -- the part of a receipt's form
-abbrev pub shown_part : PartForm → WrittenPart
-shown_part part = record { key = part.key.now; amount = part.amount.now }
+abbrev pub part_view : PartForm → WrittenPart
+part_view part = record { key = part.key.now; amount = part.amount.now }
 
 -- the request of a form
-abbrev pub shown : Form → Request
-shown (BranchForm name) = Branch name.now
-shown (CommodityForm sample) = Commodity sample.now
-shown (ImportForm branch journal) = Import branch.now journal.now
-shown (DispatchForm id from to day amount account) = Dispatch id.now from.now to.now day amount.now account.now
-shown (ReceiveForm id branch day account part) = Receive id.now branch.now day account.now (option_map shown_part part)
-shown (LockForm branch day) = Lock branch.now day
-shown (CloseForm branch day accounts into) = Close branch.now day (option_copied accounts) (option_copied into)
-shown (BalanceForm branch day) = Balance branch.now day
-shown (RegisterForm branch account tag) = Register branch.now account.now (option_copied tag)
-shown (TransitForm day) = Transit day
-shown (JournalForm branch) = Journal branch.now
-shown BranchesForm = Branches
-shown CommoditiesForm = Commodities
-shown (AccountsForm branch) = Accounts branch.now
-shown (TransfersForm day) = Transfers day
+abbrev pub form_view : Form → Request
+form_view (BranchForm name) = Branch name.now
+form_view (CommodityForm sample) = Commodity sample.now
+form_view (ImportForm branch journal) = Import branch.now journal.now
+form_view (DispatchForm id from to day amount account) = Dispatch id.now from.now to.now day amount.now account.now
+form_view (ReceiveForm id branch day account part) =
+    Receive id.now branch.now day account.now (option_map part_view part)
+form_view (LockForm branch day) = Lock branch.now day
+form_view (CloseForm branch day accounts into) = Close branch.now day (option_copied accounts) (option_copied into)
+form_view (BalanceForm branch day) = Balance branch.now day
+form_view (RegisterForm branch account tag) = Register branch.now account.now (option_copied tag)
+form_view (TransitForm day) = Transit day
+form_view (JournalForm branch) = Journal branch.now
+form_view BranchesForm = Branches
+form_view CommoditiesForm = Commodities
+form_view (AccountsForm branch) = Accounts branch.now
+form_view (TransfersForm day) = Transfers day
 
 -- the same of a form that may be a dry run
 abbrev pub shown_whole : SpelledForm → Spelled
-shown_whole s = record { request = shown s.form; is_dry_run = s.is_dry_run }
+shown_whole s = record { request = form_view s.form; is_dry_run = s.is_dry_run }

@@ -71,14 +71,14 @@ receive_at d =
     option_map (λ account. Receive id branch day account None) (text_at (codes "account") d))
     (day_at (codes "day") d)) (text_at (codes "branch") d)) (text_at (codes "id") d)
 
-abbrev pub written : List ℕ → List ℕ → WrittenPart
-written key amount = record { key = key; amount = amount }
+abbrev pub written_part : List ℕ → List ℕ → WrittenPart
+written_part key amount = record { key = key; amount = amount }
 
 abbrev pub part_at : Data → Option Request
 part_at d =
     option_and_then (λ id. option_and_then (λ branch.
     option_and_then (λ day. option_and_then (λ account. option_and_then (λ key.
-    option_map (λ amount. Receive id branch day account (Some (written key amount))) (text_at (codes "amount") d))
+    option_map (λ amount. Receive id branch day account (Some (written_part key amount))) (text_at (codes "amount") d))
     (text_at (codes "part") d))
     (text_at (codes "account") d)) (day_at (codes "day") d)) (text_at (codes "branch") d)) (text_at (codes "id") d)
 

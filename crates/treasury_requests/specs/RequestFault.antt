@@ -19,16 +19,16 @@ use Rattle.treasury_requests.specs.declared.fault.Kind.TheVariants as kind
 use Rattle.treasury_requests.specs.declared.fault.RequestFault.{RequestFault}
 use Rattle.treasury_requests.specs.declared.fault.RequestFault.TheVariants as by
 use Rattle.treasury_requests.specs.Request.{text_at, yes_or_no, spelled}
-use Rattle.treasury_requests.specs.Words.{key_name, all_words, has_name, needed, further}
+use Rattle.treasury_requests.specs.Words.{key_name, all_words, is_word_named, needed, further}
 
 -- what a value is
-abbrev pub kind_of : Data → Kind
-kind_of null = kind.Null
-kind_of (boolean b) = kind.Boolean
-kind_of (number n) = kind.Number
-kind_of (string s) = kind.String
-kind_of (array ds) = kind.Array
-kind_of (object ms) = kind.Object
+abbrev pub kind_of_data : Data → Kind
+kind_of_data null = kind.Null
+kind_of_data (boolean b) = kind.Boolean
+kind_of_data (number n) = kind.Number
+kind_of_data (string s) = kind.String
+kind_of_data (array ds) = kind.Array
+kind_of_data (object ms) = kind.Object
 
 -- what a value is that is no string
 abbrev pub odd_kind : Data → Option Kind
@@ -43,11 +43,11 @@ odd_kind (object ms) = Some kind.Object
 abbrev pub value_at : Data → Key → Option Data
 value_at d k = get (key_name k) d
 
-abbrev pub has_key : Data → Key → Bool
-has_key d k = is_some (value_at d k)
+abbrev pub has_member : Data → Key → Bool
+has_member d k = is_some (value_at d k)
 
 abbrev pub lacks_key : Data → Key → Bool
-lacks_key d k = not (has_key d k)
+lacks_key d k = not (has_member d k)
 
 -- what the value at a key is, if it is no string
 abbrev pub odd_kind_at : Data → Key → Option Kind
@@ -58,36 +58,36 @@ abbrev pub keys_of : Word → List Key
 keys_of w = needed w ++ further w
 
 -- a key is written so
-abbrev pub is_written : List ℕ → Key → Bool
-is_written name k = bytes_eq (key_name k) name
+abbrev pub is_key_named : List ℕ → Key → Bool
+is_key_named name k = bytes_eq (key_name k) name
 
 -- the request of a word may have a key that is written so
 abbrev pub may_have : Word → List ℕ → Bool
-may_have w name = is_written name key.Do || list_any (is_written name) (keys_of w)
+may_have w name = is_key_named name key.Do || list_any (is_key_named name) (keys_of w)
 
-abbrev pub is_other : Word → List ℕ → Bool
-is_other w name = not (may_have w name)
+abbrev pub is_other_key : Word → List ℕ → Bool
+is_other_key w name = not (may_have w name)
 
 -- the same of a string
 abbrev pub is_other_string : Word → String Global → Bool
-is_other_string w name = is_other w (string_bytes name)
+is_other_string w name = is_other_key w (string_bytes name)
 
 -- the keys of an object, in byte order
 abbrev pub names_in : Members → List (List ℕ)
 names_in no_members = []
 names_in (member name d ms) = name ∷ names_in ms
 
-abbrev pub names_of : Data → List (List ℕ)
-names_of null = []
-names_of (boolean b) = []
-names_of (number n) = []
-names_of (string s) = []
-names_of (array ds) = []
-names_of (object ms) = names_in ms
+abbrev pub member_names : Data → List (List ℕ)
+member_names null = []
+member_names (boolean b) = []
+member_names (number n) = []
+member_names (string s) = []
+member_names (array ds) = []
+member_names (object ms) = names_in ms
 
 -- the first key that it may not have
 abbrev pub other_key : Word → Data → Option (List ℕ)
-other_key w d = find (is_other w) (names_of d)
+other_key w d = find (is_other_key w) (member_names d)
 
 -- a key is missing that it has to have
 abbrev pub missing_fault : Word → Data → Option RequestFault
@@ -126,7 +126,7 @@ is_receipt _ = false
 
 abbrev pub half_fault : Word → Data → Option RequestFault
 half_fault w d =
-    if is_receipt w then half_of (other_key w d) (has_key d key.Part) (has_key d key.Amount) else None
+    if is_receipt w then half_of (other_key w d) (has_member d key.Part) (has_member d key.Amount) else None
 
 -- what says whether it is a dry run says neither
 abbrev pub choice_fault_in : List ℕ → Option RequestFault
@@ -153,7 +153,7 @@ do_fault d None = by.NoWord
 do_fault d (Some null) = by.WordOfKind kind.Null
 do_fault d (Some (boolean b)) = by.WordOfKind kind.Boolean
 do_fault d (Some (number n)) = by.WordOfKind kind.Number
-do_fault d (Some (string s)) = word_fault d s (find (has_name s) all_words)
+do_fault d (Some (string s)) = word_fault d s (find (is_word_named s) all_words)
 do_fault d (Some (array ds)) = by.WordOfKind kind.Array
 do_fault d (Some (object ms)) = by.WordOfKind kind.Object
 
@@ -176,6 +176,6 @@ pub record HasFault (bytes : List ℕ) (fault : RequestFault) : Type 0 where
   pub value : (d : Data) → IsUtf8 bytes → read bytes ≡ Some d → fault ≡ value_fault d
 
 -- the first fault of bytes, if they are no request
-abbrev pub IsFirstFault : List ℕ → Option RequestFault → Type 0
-IsFirstFault bytes None = IsSome (spelled bytes)
-IsFirstFault bytes (Some fault) = HasFault bytes fault
+abbrev pub IsFirstRequestFault : List ℕ → Option RequestFault → Type 0
+IsFirstRequestFault bytes None = IsSome (spelled bytes)
+IsFirstRequestFault bytes (Some fault) = HasFault bytes fault

@@ -50,8 +50,8 @@ all_words = word.Branch ∷ word.Commodity ∷ word.Import ∷ word.Dispatch ∷
     ∷ word.Transfers ∷ []
 
 -- the word is written so
-abbrev pub has_name : List ℕ → Word → Bool
-has_name text w = bytes_eq (word_name w) text
+abbrev pub is_word_named : List ℕ → Word → Bool
+is_word_named text w = bytes_eq (word_name w) text
 
 -- the keys that a request has to have beside `do`
 abbrev pub needed : Word → List Key

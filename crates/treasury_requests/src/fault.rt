@@ -7,12 +7,12 @@ ghost use Rattle.std.specs.List.{list_any};
 ghost use Rattle.std.specs.Map.{keys_of};
 ghost use Rattle.std.specs.Result.{IsOkUnless};
 ghost use Rattle.serde_json.specs.View.{view, members_view};
-ghost use Rattle.treasury_requests.specs.Words.{all_words, has_name};
-ghost use Rattle.treasury_requests.specs.RequestFault.{kind_of, odd_kind_at, has_key, lacks_key, is_odd};
-ghost use Rattle.treasury_requests.specs.RequestFault.{may_have, is_written, is_other_string};
-ghost use Rattle.treasury_requests.specs.RequestFault.{is_other, names_in, other_key, missing_fault};
+ghost use Rattle.treasury_requests.specs.Words.{all_words, is_word_named};
+ghost use Rattle.treasury_requests.specs.RequestFault.{kind_of_data, odd_kind_at, has_member, lacks_key, is_odd};
+ghost use Rattle.treasury_requests.specs.RequestFault.{may_have, is_key_named, is_other_string};
+ghost use Rattle.treasury_requests.specs.RequestFault.{is_other_key, names_in, other_key, missing_fault};
 ghost use Rattle.treasury_requests.specs.RequestFault.{odd_fault_in, odd_fault, date_fault, half_fault, choice_fault};
-ghost use Rattle.treasury_requests.specs.RequestFault.{keys_fault, word_fault, value_fault, IsFirstFault};
+ghost use Rattle.treasury_requests.specs.RequestFault.{keys_fault, word_fault, value_fault, IsFirstRequestFault};
 
 use crate::request::{form_of, owned_text, text_at, yes_or_no};
 use journal_lines::read_date;
@@ -95,7 +95,7 @@ pub enum RequestFault {
 
 /// What a value is.
 fn kind_of(value: &Value) -> Kind
-    ensures { result ≡ kind_of (view value.now) }
+    ensures { result ≡ kind_of_data (view value.now) }
 {
     match value {
         Value::Null => Kind::Null,
@@ -109,7 +109,7 @@ fn kind_of(value: &Value) -> Kind
 
 /// Whether a value has a key.
 fn has_key(value: &Value, key: Key) -> bool
-    ensures { result ≡ has_key (view value.now) key }
+    ensures { result ≡ has_member (view value.now) key }
 {
     value.get(key.name()).is_some()
 }
@@ -134,14 +134,14 @@ fn may_have(word: Word, name: &str) -> bool
 
 /// Whether one of the keys is written so.
 fn is_among(keys: &[Key], name: &str) -> bool
-    ensures { result ≡ list_any (is_written name.now) keys.now }
+    ensures { result ≡ list_any (is_key_named name.now) keys.now }
 {
     keys.iter().any(|key| key.name() == name)
 }
 
 /// Whether the request of a word may not have a key that is written so.
 fn is_other(word: Word, name: &str) -> bool
-    ensures { result ≡ is_other word name.now }
+    ensures { result ≡ is_other_key word name.now }
 {
     !may_have(word, name)
 }
@@ -155,7 +155,7 @@ fn first_other(map: &Map<String, Value>, word: Word) -> Option<&String>
 
 /// The same, as a text.
 fn other_name(map: &Map<String, Value>, word: Word) -> Option<&str>
-    ensures { option_map (λ s. s.now) result ≡ find (is_other word) (names_in (members_view map.now.entries)) }
+    ensures { option_map (λ s. s.now) result ≡ find (is_other_key word) (names_in (members_view map.now.entries)) }
 {
     match first_other(map, word) {
         Some(name) => Some(name.as_str()),
@@ -317,7 +317,7 @@ fn keys_fault(alloc: Global, value: &Value, word: Word) -> Result<RequestFault, 
 /// The first fault of an object in which `do` has that text.
 fn word_fault(alloc: Global, value: &Value, text: &str) -> Result<RequestFault, Cause>
     ensures value { IfOk result
-        (λ fault. fault ≡ word_fault (view value.now) text.now (find (has_name text.now) all_words)) }
+        (λ fault. fault ≡ word_fault (view value.now) text.now (find (is_word_named text.now) all_words)) }
     ensures memory { IsOkUnless result Cause.OutOfMemory }
 {
     match word_of(text) {
@@ -352,7 +352,7 @@ fn value_fault(alloc: Global, value: &Value) -> Result<RequestFault, Cause>
 
 /// The first fault of a text that is no request, or `None` where it is one.
 fn text_fault(alloc: Global, text: &str) -> Result<Option<RequestFault>, Cause>
-    ensures value { IfOk result (IsFirstFault text.now) }
+    ensures value { IfOk result (IsFirstRequestFault text.now) }
     ensures memory { IsOkUnless result Cause.OutOfMemory }
 {
     let value = match Value::from_str(alloc, text) {
@@ -381,7 +381,7 @@ fn text_fault(alloc: Global, text: &str) -> Result<Option<RequestFault>, Cause>
 /// Why bytes are no request: their first fault, or `None` where they are one. Answers 40 where there is no memory to
 /// find it.
 pub fn fault_of(alloc: Global, line: &[u8]) -> Result<Option<RequestFault>, Cause>
-    ensures value { IfOk result (IsFirstFault line.now) }
+    ensures value { IfOk result (IsFirstRequestFault line.now) }
     ensures memory { IsOkUnless result Cause.OutOfMemory }
 {
     match str::from_utf8(line) {

@@ -10,7 +10,7 @@ use Rattle.journal_format.specs.declared.txn.Txn.{Txn}
 use Rattle.journal_format.specs.CanonicalText.{body_text, marked}
 use Rattle.journal_format.specs.Mark.{is_mark}
 use Rattle.journal_format.specs.Printable.{IsPrintable}
-use Rattle.journal_balance.specs.Legs.{legs_of}
+use Rattle.journal_balance.specs.Legs.{balanced_entry}
 use Rattle.treasury_state.specs.declared.record.Record.{Record}
 use Rattle.treasury_state.specs.declared.rows.EntryRow.{EntryRow}
 use Rattle.treasury_state.specs.Good.{IsGoodRecord}
@@ -88,7 +88,7 @@ other_row styles branch nr row differ =
     )
 
 pub other_day : (styles : List Style) (branch nr : ℕ) (row : EntryRow) (t : Txn) (own : List ℕ) (entry : Entry)
-    → ReadsRow styles row t own → ((x : Entry) → legs_of styles (marked t (Some own)) ≡ Ok x → x ≡ entry)
+    → ReadsRow styles row t own → ((x : Entry) → balanced_entry styles (marked t (Some own)) ≡ Ok x → x ≡ entry)
     → (entry.day.0 ≡ row.day → ⊥) → IsFault (IsEntryRow styles branch nr row) Damaged
 other_day styles branch nr row t own entry h only differ =
     inr (
@@ -116,14 +116,14 @@ same_row styles branch nr row t own mark entry b n d m body =
     record { branch = row.branch; nr = row.nr; day = row.day; mark = row.mark; body = x } in y) body)))
 
 pub legs_fault : (styles : List Style) (branch nr : ℕ) (row : EntryRow) (t : Txn) (own : List ℕ) (e : Cause)
-    → ReadsRow styles row t own → IsFault (λ (x : Entry). legs_of styles (marked t (Some own)) ≡ Ok x) e
+    → ReadsRow styles row t own → IsFault (λ (x : Entry). balanced_entry styles (marked t (Some own)) ≡ Ok x) e
     → IsFault (IsEntryRow styles branch nr row) e
 legs_fault styles branch nr row t own e h fault =
-    fault_of (IsEntryRow styles branch nr row) (λ (x : Entry). legs_of styles (marked t (Some own)) ≡ Ok x) e
+    fault_of (IsEntryRow styles branch nr row) (λ (x : Entry). balanced_entry styles (marked t (Some own)) ≡ Ok x) e
     (λ r p. (r.entry, row_legs styles branch nr row t own h r p)) fault
 
 pub record_good : (styles : List Style) (t : Txn) (own mark : List ℕ) (entry : Entry) → own ≡ mark
-    → IsPrintable styles (marked t (Some own)) → legs_of styles (marked t (Some own)) ≡ Ok entry
+    → IsPrintable styles (marked t (Some own)) → balanced_entry styles (marked t (Some own)) ≡ Ok entry
     → IsGoodRecord styles (record { mark = mark; txn = marked t (Some own); entry = entry })
 record_good styles t own mark entry e p l =
     record { marked = ap (λ (m : List ℕ). let o : Option (List ℕ) = Some m in o) e; printable = p; legs = l }

@@ -4,13 +4,13 @@ use Rattle.clap.specs.Walk.{Rule}
 use Rattle.clap.specs.Simple.{App, Shape, app_of, shape_of, with_subcommand}
 use Rattle.clap.specs.Built.{AddsSubcommand}
 use Rattle.clap.specs.declared.builder.command.Command.{Command}
-use Rattle.treasury_spelling.specs.Known.{placed}
+use Rattle.treasury_spelling.specs.Known.{placed_shape}
 use Rattle.treasury_spelling.specs.Knowing.{IsPlaced, HasMore}
 
 pub placed_behind : {E : Type 0} (first : Shape) (name : List ℕ) (rules : List Rule) (old between sub : Command)
     (result : Result Command E) → HasMore (first ∷ []) old between → IsPlaced name rules sub
     → IfOk result (λ new. AddsSubcommand between sub new)
-    → IfOk result (λ new. HasMore (first ∷ placed name rules ∷ []) old new)
+    → IfOk result (λ new. HasMore (first ∷ placed_shape name rules ∷ []) old new)
 placed_behind first name rules old between sub (Ok new) f s adds = record {
   app =
       adds.shape s.local

@@ -8,7 +8,7 @@ use Rattle.clap.proofs.OnLiterals.{clap_on_literals}
 use Rattle.clap.specs.Walk.{first_of}
 use Rattle.treasury_requests.specs.declared.request.Request.TheVariants.{Branch, Journal, Branches}
 use Rattle.treasury_spelling.specs.Words.{objections, named}
-use Rattle.treasury_spelling.specs.Spelling.{request_in, is_dry_run, is_explained, number_in}
+use Rattle.treasury_spelling.specs.Spelling.{request_in, is_dry_run, is_explained, number_spelled}
 
 pub run_is_asked_for : (name : List ℕ) → objections (name ∷ codes "run" ∷ []) ≡ []
 unfolding clap_on_literals objections named
@@ -94,7 +94,7 @@ unfolding clap_on_literals objections named
 port_is_out_of_range name = refl
 
 pub port_is_the_number_that_is_given : (name : List ℕ)
-    → option_and_then (λ p. option_map number_in (first_of (codes "at") p.1))
+    → option_and_then (λ p. option_map number_spelled (first_of (codes "at") p.1))
     (named (name ∷ codes "branches" ∷ codes "--at" ∷ codes "8040" ∷ [])) ≡ Some 8040
 unfolding clap_on_literals named
 port_is_the_number_that_is_given name = refl

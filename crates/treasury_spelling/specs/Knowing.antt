@@ -6,7 +6,7 @@ use Rattle.clap.specs.declared.builder.command.Command.{Command}
 use Rattle.clap.specs.declared.builder.command.Command.TheViews.{out-Command}
 use Rattle.clap.specs.Kinds.{Kinds}
 use Rattle.clap.specs.declared.error.kind.ErrorKind.{ErrorKind}
-use Rattle.treasury_spelling.specs.Known.{word, placed}
+use Rattle.treasury_spelling.specs.Known.{word, placed_shape}
 
 -- a command is a word over a file that takes this, and has no argument for its subcommands
 pub record IsWord (name : List ℕ) (rules : List Rule) (c : Command) : Type 0 where
@@ -15,7 +15,7 @@ pub record IsWord (name : List ℕ) (rules : List Rule) (c : Command) : Type 0 w
 
 -- the same of a word over a file or through a service
 pub record IsPlaced (name : List ℕ) (rules : List Rule) (c : Command) : Type 0 where
-  pub app : app_of c ≡ record { top = placed name rules; subs = [] }
+  pub app : app_of c ≡ record { top = placed_shape name rules; subs = [] }
   pub local : (out-Command c).has_globals ≡ false
 
 -- a command has further subcommands, after its own

@@ -33,8 +33,8 @@ abbrev pub at : Rule
 at = record (optional (codes "at")) { parser = Some (Signed (pos 1) (pos 65535)) }
 
 -- a word over a database file, or through the service that has it: `--db FILE` or `--at PORT`, and what else it takes
-abbrev pub placed : List ℕ → List Rule → Shape
-placed name rules = record (new_shape name) { rules = optional (codes "db") ∷ at ∷ rules }
+abbrev pub placed_shape : List ℕ → List Rule → Shape
+placed_shape name rules = record (new_shape name) { rules = optional (codes "db") ∷ at ∷ rules }
 
 -- `--branch NAME`, `--day DAY`, `--account ACCOUNT`, `--id ID`
 abbrev pub branch : Rule
@@ -54,47 +54,47 @@ abbrev pub dry_run : Rule
 dry_run = flag (codes "dry-run")
 
 -- the word that is over no file, with `--explain`
-abbrev pub run : Shape
-run = record (new_shape (codes "run")) { rules = flag (codes "explain") ∷ [] }
+abbrev pub run_shape : Shape
+run_shape = record (new_shape (codes "run")) { rules = flag (codes "explain") ∷ [] }
 
 -- the words by which a treasury begins
 abbrev pub begins : List Shape
 begins =
     word (codes "init") []
-    ∷ placed (codes "branch") (operand (codes "name") ∷ dry_run ∷ [])
-    ∷ placed (codes "branches") []
-    ∷ placed (codes "commodity") (operand (codes "sample") ∷ dry_run ∷ [])
-    ∷ placed (codes "commodities") []
+    ∷ placed_shape (codes "branch") (operand (codes "name") ∷ dry_run ∷ [])
+    ∷ placed_shape (codes "branches") []
+    ∷ placed_shape (codes "commodity") (operand (codes "sample") ∷ dry_run ∷ [])
+    ∷ placed_shape (codes "commodities") []
     ∷ []
 
 -- those of every month
 abbrev pub months : List Shape
 months =
-    placed (codes "import") (branch ∷ operand (codes "journal") ∷ dry_run ∷ [])
-    ∷ placed (codes "accounts") (branch ∷ [])
-    ∷ placed (codes "balance") (branch ∷ day ∷ [])
-    ∷ placed (codes "register") (branch ∷ account ∷ optional (codes "tag") ∷ [])
+    placed_shape (codes "import") (branch ∷ operand (codes "journal") ∷ dry_run ∷ [])
+    ∷ placed_shape (codes "accounts") (branch ∷ [])
+    ∷ placed_shape (codes "balance") (branch ∷ day ∷ [])
+    ∷ placed_shape (codes "register") (branch ∷ account ∷ optional (codes "tag") ∷ [])
     ∷ []
 
 -- those of transfers
 abbrev pub transfers : List Shape
 transfers =
-    placed (codes "dispatch") (id ∷ option (codes "from") ∷ option (codes "to") ∷ day ∷ option (codes "amount")
+    placed_shape (codes "dispatch") (id ∷ option (codes "from") ∷ option (codes "to") ∷ day ∷ option (codes "amount")
     ∷ account ∷ dry_run ∷ [])
-    ∷ placed (codes "receive") (id ∷ branch ∷ day ∷ account ∷ optional (codes "part") ∷ optional (codes "amount")
+    ∷ placed_shape (codes "receive") (id ∷ branch ∷ day ∷ account ∷ optional (codes "part") ∷ optional (codes "amount")
     ∷ dry_run ∷ [])
-    ∷ placed (codes "transfers") (day ∷ [])
-    ∷ placed (codes "transit") (day ∷ [])
+    ∷ placed_shape (codes "transfers") (day ∷ [])
+    ∷ placed_shape (codes "transit") (day ∷ [])
     ∷ []
 
 -- those of a month's or a year's end, the one that stays, and the one that is over no file
 abbrev pub ends : List Shape
 ends =
-    placed (codes "lock") (branch ∷ day ∷ dry_run ∷ [])
-    ∷ placed (codes "close") (branch ∷ day ∷ optional (codes "accounts") ∷ optional (codes "into") ∷ dry_run ∷ [])
-    ∷ placed (codes "journal") (branch ∷ [])
+    placed_shape (codes "lock") (branch ∷ day ∷ dry_run ∷ [])
+    ∷ placed_shape (codes "close") (branch ∷ day ∷ optional (codes "accounts") ∷ optional (codes "into") ∷ dry_run ∷ [])
+    ∷ placed_shape (codes "journal") (branch ∷ [])
     ∷ word (codes "serve") (number (codes "port") 65535 ∷ number (codes "requests") 4294967295 ∷ [])
-    ∷ run
+    ∷ run_shape
     ∷ []
 
 -- the words that the program knows: it has a version, and one of its words has to be given

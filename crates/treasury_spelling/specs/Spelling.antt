@@ -15,7 +15,7 @@ use Rattle.treasury_requests.specs.declared.request.Request.TheVariants.{Branch,
 use Rattle.treasury_requests.specs.declared.request.Request.TheVariants.{Lock, Close}
 use Rattle.treasury_requests.specs.declared.request.Request.TheVariants.{Balance, Register, Transit, Journal}
 use Rattle.treasury_requests.specs.declared.request.Request.TheVariants.{Branches, Commodities, Accounts, Transfers}
-use Rattle.treasury_requests.specs.Request.{written}
+use Rattle.treasury_requests.specs.Request.{written_part}
 
 -- the day that is given, where it is a date
 abbrev pub day_in : List Row → Option Day
@@ -31,14 +31,14 @@ dispatch_in rows =
     (day_in rows)) (first_of (codes "to") rows)) (first_of (codes "from") rows)) (first_of (codes "id") rows)
 
 -- a part is spelled by its key and its amount: both are given, or neither
-abbrev pub part_of : Option (List ℕ) → Option (List ℕ) → Option (Option WrittenPart)
-part_of None None = Some None
-part_of None (Some amount) = None
-part_of (Some key) None = None
-part_of (Some key) (Some amount) = Some (Some (written key amount))
+abbrev pub part_spelled : Option (List ℕ) → Option (List ℕ) → Option (Option WrittenPart)
+part_spelled None None = Some None
+part_spelled None (Some amount) = None
+part_spelled (Some key) None = None
+part_spelled (Some key) (Some amount) = Some (Some (written_part key amount))
 
 abbrev pub part_in : List Row → Option (Option WrittenPart)
-part_in rows = part_of (first_of (codes "part") rows) (first_of (codes "amount") rows)
+part_in rows = part_spelled (first_of (codes "part") rows) (first_of (codes "amount") rows)
 
 abbrev pub receive_in : List Row → Option Request
 receive_in rows =
@@ -56,8 +56,8 @@ list_in word rows =
     else None
 
 -- what the word of a report spells
-abbrev pub report_in : List ℕ → List Row → Option Request
-report_in word rows =
+abbrev pub report_spelled : List ℕ → List Row → Option Request
+report_spelled word rows =
     if bytes_eq word (codes "balance")
     then option_and_then (λ branch. option_map (Balance branch) (day_in rows)) (first_of (codes "branch") rows)
     else if bytes_eq word (codes "register")
@@ -81,20 +81,20 @@ request_in word rows =
     then option_and_then (λ branch.
     option_map (λ day. Close branch day (first_of (codes "accounts") rows) (first_of (codes "into") rows))
     (day_in rows)) (first_of (codes "branch") rows)
-    else report_in word rows
+    else report_spelled word rows
 
 -- the number that decimal digits write, where a plus may stand first
-abbrev pub number_in : List ℕ → ℕ
-number_in text = digits_value 10 (without_leading_plus text)
+abbrev pub number_spelled : List ℕ → ℕ
+number_spelled text = digits_value 10 (without_leading_plus text)
 
 -- a number of a port, in decimal digits
 abbrev pub IsPort : List ℕ → Type 0
-IsPort text = IsNumeral 10 (without_leading_plus text) × (number_in text < 2 ^ 16)
+IsPort text = IsNumeral 10 (without_leading_plus text) × (number_spelled text < 2 ^ 16)
 
 -- that port is given
 abbrev pub HasPort : ℕ → List Row → Type 0
 HasPort port rows =
-    (text : List ℕ) × (first_of (codes "at") rows ≡ Some text) × IsPort text × (port ≡ number_in text)
+    (text : List ℕ) × (first_of (codes "at") rows ≡ Some text) × IsPort text × (port ≡ number_spelled text)
 
 -- no port is given
 abbrev pub LacksPort : List Row → Type 0

@@ -4,9 +4,10 @@ ghost use Rattle.std.specs.Prelude.{◌≡◌, ◌∷◌, [], Some, false, codes
 ghost use Rattle.clap.specs.Walk.{rule_of};
 ghost use Rattle.clap.specs.Simple.{app_of};
 ghost use Rattle.clap.specs.declared.builder.command.Command.TheViews.{out-Command};
-ghost use Rattle.treasury_spelling.specs.Known.{known, word, placed, at, option, optional, operand, number, branch};
+ghost use Rattle.treasury_spelling.specs.Known.{known, word, placed_shape, at, option, optional, operand, number};
+ghost use Rattle.treasury_spelling.specs.Known.{branch};
 ghost use Rattle.treasury_spelling.specs.Known.{day, account};
-ghost use Rattle.treasury_spelling.specs.Known.{id, flag, run};
+ghost use Rattle.treasury_spelling.specs.Known.{id, flag, run_shape};
 ghost use Rattle.treasury_spelling.specs.Known.{dry_run, begins, months, transfers, ends};
 ghost use Rattle.treasury_spelling.specs.Knowing.{IsWord, IsPlaced, HasMore};
 
@@ -512,8 +513,8 @@ fn journal<'a>(alloc: Global) -> Result<Command<'a>, AllocError>
 /// With the words for a treasury, a branch and the branches.
 fn with_branches<'a>(alloc: Global, command: Command<'a>) -> Result<Command<'a>, AllocError>
     ensures { IfOk result (HasMore (word (codes "init") []
-        ∷ placed (codes "branch") (operand (codes "name") ∷ dry_run ∷ [])
-        ∷ placed (codes "branches") [] ∷ []) command.entry) }
+        ∷ placed_shape (codes "branch") (operand (codes "name") ∷ dry_run ∷ [])
+        ∷ placed_shape (codes "branches") [] ∷ []) command.entry) }
 {
     command
         .subcommand(init(alloc)?)?
@@ -532,8 +533,8 @@ fn with_begins<'a>(alloc: Global, command: Command<'a>) -> Result<Command<'a>, A
 
 /// With the words for what comes into a book, and for its accounts.
 fn with_imports<'a>(alloc: Global, command: Command<'a>) -> Result<Command<'a>, AllocError>
-    ensures { IfOk result (HasMore (placed (codes "import") (branch ∷ operand (codes "journal") ∷ dry_run ∷ [])
-        ∷ placed (codes "accounts") (branch ∷ []) ∷ []) command.entry) }
+    ensures { IfOk result (HasMore (placed_shape (codes "import") (branch ∷ operand (codes "journal") ∷ dry_run ∷ [])
+        ∷ placed_shape (codes "accounts") (branch ∷ []) ∷ []) command.entry) }
 {
     command
         .subcommand(import(alloc)?)?
@@ -551,7 +552,7 @@ fn with_months<'a>(alloc: Global, command: Command<'a>) -> Result<Command<'a>, A
 
 /// With the word by which money goes.
 fn with_dispatches<'a>(alloc: Global, command: Command<'a>) -> Result<Command<'a>, AllocError>
-    ensures { IfOk result (HasMore (placed (codes "dispatch")
+    ensures { IfOk result (HasMore (placed_shape (codes "dispatch")
         (id ∷ option (codes "from") ∷ option (codes "to") ∷ day ∷ option (codes "amount") ∷ account ∷ dry_run ∷ [])
         ∷ []) command.entry) }
 {
@@ -560,9 +561,9 @@ fn with_dispatches<'a>(alloc: Global, command: Command<'a>) -> Result<Command<'a
 
 /// With the words by which money goes and comes.
 fn with_moves<'a>(alloc: Global, command: Command<'a>) -> Result<Command<'a>, AllocError>
-    ensures { IfOk result (HasMore (placed (codes "dispatch")
+    ensures { IfOk result (HasMore (placed_shape (codes "dispatch")
         (id ∷ option (codes "from") ∷ option (codes "to") ∷ day ∷ option (codes "amount") ∷ account ∷ dry_run ∷ [])
-        ∷ placed (codes "receive")
+        ∷ placed_shape (codes "receive")
         (id ∷ branch ∷ day ∷ account ∷ optional (codes "part") ∷ optional (codes "amount") ∷ dry_run ∷ [])
         ∷ []) command.entry) }
 {
@@ -606,7 +607,7 @@ fn serve<'a>(alloc: Global) -> Result<Command<'a>, AllocError>
 
 /// The word `run`, which is over no file.
 fn run<'a>(alloc: Global) -> Result<Command<'a>, AllocError>
-    ensures app { IfOk result (λ command. app_of command ≡ record { top = run; subs = [] }) }
+    ensures app { IfOk result (λ command. app_of command ≡ record { top = run_shape; subs = [] }) }
     ensures local { IfOk result (λ command. (out-Command command).has_globals ≡ false) }
 {
     Command::new(alloc, "run")
@@ -617,8 +618,9 @@ fn run<'a>(alloc: Global) -> Result<Command<'a>, AllocError>
 
 /// With the words that lock a branch.
 fn with_locks<'a>(alloc: Global, command: Command<'a>) -> Result<Command<'a>, AllocError>
-    ensures { IfOk result (HasMore (placed (codes "lock") (branch ∷ day ∷ dry_run ∷ [])
-        ∷ placed (codes "close") (branch ∷ day ∷ optional (codes "accounts") ∷ optional (codes "into") ∷ dry_run ∷ [])
+    ensures { IfOk result (HasMore (placed_shape (codes "lock") (branch ∷ day ∷ dry_run ∷ [])
+        ∷ placed_shape (codes "close")
+        (branch ∷ day ∷ optional (codes "accounts") ∷ optional (codes "into") ∷ dry_run ∷ [])
         ∷ []) command.entry) }
 {
     command.subcommand(lock(alloc)?)?.subcommand(close(alloc)?)
@@ -626,9 +628,10 @@ fn with_locks<'a>(alloc: Global, command: Command<'a>) -> Result<Command<'a>, Al
 
 /// With the words of a month's or a year's end.
 fn with_closings<'a>(alloc: Global, command: Command<'a>) -> Result<Command<'a>, AllocError>
-    ensures { IfOk result (HasMore (placed (codes "lock") (branch ∷ day ∷ dry_run ∷ [])
-        ∷ placed (codes "close") (branch ∷ day ∷ optional (codes "accounts") ∷ optional (codes "into") ∷ dry_run ∷ [])
-        ∷ placed (codes "journal") (branch ∷ []) ∷ []) command.entry) }
+    ensures { IfOk result (HasMore (placed_shape (codes "lock") (branch ∷ day ∷ dry_run ∷ [])
+        ∷ placed_shape (codes "close")
+        (branch ∷ day ∷ optional (codes "accounts") ∷ optional (codes "into") ∷ dry_run ∷ [])
+        ∷ placed_shape (codes "journal") (branch ∷ []) ∷ []) command.entry) }
 {
     with_locks(alloc, command)?.subcommand(journal(alloc)?)
 }

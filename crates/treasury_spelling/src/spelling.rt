@@ -4,9 +4,9 @@ ghost use Rattle.std.specs.Prelude.{◌≡◌, codes, None, option_map, option_c
 ghost use Rattle.clap.specs.Matches.{found_of};
 ghost use Rattle.clap.specs.Walk.{first_of, rows_of};
 ghost use Rattle.journal_lines.specs.Date.{IsDayNumber};
-ghost use Rattle.treasury_requests.specs.Form.{shown, shown_part};
+ghost use Rattle.treasury_requests.specs.Form.{form_view, part_view};
 ghost use Rattle.treasury_requests.specs.Request.{HasDayNumbers};
-ghost use Rattle.treasury_spelling.specs.Spelling.{day_in, dispatch_in, part_in, receive_in, list_in, report_in};
+ghost use Rattle.treasury_spelling.specs.Spelling.{day_in, dispatch_in, part_in, receive_in, list_in, report_spelled};
 ghost use Rattle.treasury_spelling.specs.Spelling.{request_in};
 ghost use Rattle.treasury_spelling.specs.Spelling.{is_set, is_dry_run, is_explained, HasPort, LacksPort};
 
@@ -72,8 +72,8 @@ fn day_of(values: &ArgMatches<'_>) -> Option<Day>
 
 /// What `dispatch` asks for.
 fn dispatch_of<'a>(values: &ArgMatches<'a>) -> Option<Form<'a>>
-    ensures value { option_map shown result ≡ dispatch_in (rows_of (found_of values.now)) }
-    ensures days { IfSome result (λ form. HasDayNumbers (shown form)) }
+    ensures value { option_map form_view result ≡ dispatch_in (rows_of (found_of values.now)) }
+    ensures days { IfSome result (λ form. HasDayNumbers (form_view form)) }
 {
     let id = value_of(values, "id")?;
     let from = value_of(values, "from")?;
@@ -93,7 +93,7 @@ fn dispatch_of<'a>(values: &ArgMatches<'a>) -> Option<Form<'a>>
 
 /// The part that `receive` asks for, if there is one: its key and its amount are both given, or neither.
 fn part_of<'a>(values: &ArgMatches<'a>) -> Option<Option<PartForm<'a>>>
-    ensures { option_map (option_map shown_part) result ≡ part_in (rows_of (found_of values.now)) }
+    ensures { option_map (option_map part_view) result ≡ part_in (rows_of (found_of values.now)) }
 {
     let key = value_of(values, "part");
     let amount = value_of(values, "amount");
@@ -111,8 +111,8 @@ fn part_of<'a>(values: &ArgMatches<'a>) -> Option<Option<PartForm<'a>>>
 
 /// What `receive` asks for.
 fn receive_of<'a>(values: &ArgMatches<'a>) -> Option<Form<'a>>
-    ensures value { option_map shown result ≡ receive_in (rows_of (found_of values.now)) }
-    ensures days { IfSome result (λ form. HasDayNumbers (shown form)) }
+    ensures value { option_map form_view result ≡ receive_in (rows_of (found_of values.now)) }
+    ensures days { IfSome result (λ form. HasDayNumbers (form_view form)) }
 {
     let id = value_of(values, "id")?;
     let branch = value_of(values, "branch")?;
@@ -130,8 +130,8 @@ fn receive_of<'a>(values: &ArgMatches<'a>) -> Option<Form<'a>>
 
 /// What the word of a list of what there is asks for.
 fn list_of<'a>(word: &str, values: &ArgMatches<'a>) -> Option<Form<'a>>
-    ensures value { option_map shown result ≡ list_in word.now (rows_of (found_of values.now)) }
-    ensures days { IfSome result (λ form. HasDayNumbers (shown form)) }
+    ensures value { option_map form_view result ≡ list_in word.now (rows_of (found_of values.now)) }
+    ensures days { IfSome result (λ form. HasDayNumbers (form_view form)) }
 {
     if word == "branches" {
         Some(Form::Branches)
@@ -150,8 +150,8 @@ fn list_of<'a>(word: &str, values: &ArgMatches<'a>) -> Option<Form<'a>>
 
 /// What the word of a report asks for.
 fn report_of<'a>(word: &str, values: &ArgMatches<'a>) -> Option<Form<'a>>
-    ensures value { option_map shown result ≡ report_in word.now (rows_of (found_of values.now)) }
-    ensures days { IfSome result (λ form. HasDayNumbers (shown form)) }
+    ensures value { option_map form_view result ≡ report_spelled word.now (rows_of (found_of values.now)) }
+    ensures days { IfSome result (λ form. HasDayNumbers (form_view form)) }
 {
     if word == "balance" {
         let branch = value_of(values, "branch")?;
@@ -189,8 +189,8 @@ pub fn fault_of(values: &ArgMatches<'_>) -> &'static str {
 /// whose keys have these values. Nothing where a value is missing, a day is no date, or of a part only the key or the
 /// amount is given.
 pub fn form_of_word<'a>(word: &str, values: &ArgMatches<'a>) -> Option<Form<'a>>
-    ensures value { option_map shown result ≡ request_in word.now (rows_of (found_of values.now)) }
-    ensures days { IfSome result (λ form. HasDayNumbers (shown form)) }
+    ensures value { option_map form_view result ≡ request_in word.now (rows_of (found_of values.now)) }
+    ensures days { IfSome result (λ form. HasDayNumbers (form_view form)) }
 {
     if word == "branch" {
         let name = value_of(values, "name")?;

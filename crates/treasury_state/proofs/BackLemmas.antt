@@ -6,7 +6,7 @@ use Rattle.money_core.specs.declared.unit.Declared.{Declared}
 use Rattle.money_core.specs.declared.unit.Declared.TheVariants.{New}
 use Rattle.money_core.specs.declared.cause.Cause.{Cause}
 use Rattle.money_core.specs.declared.cause.Cause.TheVariants.{OutOfMemory}
-use Rattle.money_core.specs.Style.{declared, after, is_style, AreStyles}
+use Rattle.money_core.specs.Style.{declared, styles_after, is_style, AreStyles}
 use Rattle.std.specs.List.{slice_get, AllByRecursion}
 use Rattle.std.specs.Option.{unwrap_or}
 use Rattle.std.specs.Str.{bytes_eq}
@@ -26,7 +26,7 @@ use Rattle.treasury_state.specs.declared.delta.Addition.TheVariants as add
 use Rattle.treasury_state.specs.Federation.{Branch, Federation, entries}
 use Rattle.treasury_state.specs.Joined.{new_branch, with_records, with_lock, changed, joined_one, joined}
 use Rattle.treasury_state.specs.Good.{IsGoodBranch, IsGoodState}
-use Rattle.treasury_state.specs.Room.{HasRoom, IsRoomy}
+use Rattle.treasury_state.specs.Room.{FitsLedger, IsRoomy}
 use Rattle.treasury_state.proofs.OrderLemmas.{ascending_before_insert, ascending_before_receipt}
 use Rattle.treasury_state.proofs.EntriesLemmas.{entries-append}
 
@@ -87,7 +87,7 @@ last_new styles style are =
     (omega (arith, are.few, length-append styles (style ∷ [])))
 
 -- a branch with one record less
-pub room_before : (b : Branch) (r : Record) → HasRoom (with_records (r ∷ []) b) → HasRoom b
+pub room_before : (b : Branch) (r : Record) → FitsLedger (with_records (r ∷ []) b) → FitsLedger b
 room_before b r h = record {
   fit = all_front IsFit (entries b.records) (r.entry ∷ [])
       (subst (AllByRecursion IsFit) (entries-append b.records (r ∷ [])) h.fit);
@@ -95,22 +95,23 @@ room_before b r h = record {
       within_left (entries b.records) (r.entry ∷ []) (subst IsWithin (entries-append b.records (r ∷ [])) h.within);
 }
 
-pub room_fit : (b : Branch) (r : Record) → HasRoom (with_records (r ∷ []) b) → IsFit r.entry
+pub room_fit : (b : Branch) (r : Record) → FitsLedger (with_records (r ∷ []) b) → IsFit r.entry
 room_fit b r h =
     all_last IsFit (entries b.records) r.entry (subst (AllByRecursion IsFit) (entries-append b.records (r ∷ [])) h.fit)
 
-pub room_within : (b : Branch) (r : Record) → HasRoom (with_records (r ∷ []) b)
+pub room_within : (b : Branch) (r : Record) → FitsLedger (with_records (r ∷ []) b)
     → IsWithin (entries b.records ++ r.entry ∷ [])
 room_within b r h = subst IsWithin (entries-append b.records (r ∷ [])) h.within
 
 back_at : (g : Branch → Branch) (b : Branch) (bs xs : List Branch) (t : Bool)
-    → ((x : Branch) → HasRoom (g x) → HasRoom x) → (AllByRecursion HasRoom xs → AllByRecursion HasRoom bs)
-    → AllByRecursion HasRoom (if t then g b ∷ bs else b ∷ xs) → AllByRecursion HasRoom (b ∷ bs)
+    → ((x : Branch) → FitsLedger (g x) → FitsLedger x) → (AllByRecursion FitsLedger xs → AllByRecursion FitsLedger bs)
+    → AllByRecursion FitsLedger (if t then g b ∷ bs else b ∷ xs) → AllByRecursion FitsLedger (b ∷ bs)
 back_at g b bs xs true p k h = (p b h.0, h.1)
 back_at g b bs xs false p k h = (h.0, k h.1)
 
-back_changed : (g : Branch → Branch) (name : List ℕ) (bs : List Branch) → ((x : Branch) → HasRoom (g x) → HasRoom x)
-    → AllByRecursion HasRoom (changed g name bs) → AllByRecursion HasRoom bs
+back_changed : (g : Branch → Branch) (name : List ℕ) (bs : List Branch)
+    → ((x : Branch) → FitsLedger (g x) → FitsLedger x)
+    → AllByRecursion FitsLedger (changed g name bs) → AllByRecursion FitsLedger bs
 back_changed g name [] p h = tt
 back_changed g name (b ∷ bs) p h =
     back_at g b bs (changed g name bs) (bytes_eq b.name name) p (back_changed g name bs p) h
@@ -119,7 +120,11 @@ room_one : (f : Federation) (x : Addition) → IsRoomy (joined_one f x) → IsRo
 room_one f (add.Commodity style) h =
     record { styles = styles_back f.styles style h.styles; branches = h.branches; ids = h.ids }
 room_one f (add.Branch name) h =
-    record { styles = h.styles; branches = all_front HasRoom f.branches (new_branch name ∷ []) h.branches; ids = h.ids }
+    record {
+      styles = h.styles;
+      branches = all_front FitsLedger f.branches (new_branch name ∷ []) h.branches;
+      ids = h.ids;
+    }
 room_one f (add.Record name r) h =
     record {
       styles = h.styles;
@@ -145,7 +150,7 @@ room_back (x ∷ xs) f h = room_one f x (room_back xs (joined_one f x) h)
 pub good_room : (f : Federation) → IsGoodState f → IsRoomy f
 good_room f good = record {
   styles = good.styles;
-  branches = all_weaker (IsGoodBranch f.styles) HasRoom f.branches
+  branches = all_weaker (IsGoodBranch f.styles) FitsLedger f.branches
       (λ b h. record { fit = h.book.fit; within = h.book.within }) good.branches;
   ids = good.ids;
 }
@@ -162,9 +167,10 @@ new_style styles = Ok (New (record { 0 = length styles }))
 -- what declaring such a style answers
 pub declare_appends : (styles new : List Style) (style : Style) (r : Result Declared Cause) (x : Declared)
     → AreStyles (styles ++ style ∷ []) → (r ≡ declared styles style) ⊎ (r ≡ Err OutOfMemory) → r ≡ Ok x
-    → new ≡ after styles style r
+    → new ≡ styles_after styles style r
     → new ≡ styles ++ style ∷ []
-declare_appends styles new style r x are (inl e) k h = h ∙ ap (after styles style) (e ∙ last_new styles style are)
+declare_appends styles new style r x are (inl e) k h =
+    h ∙ ap (styles_after styles style) (e ∙ last_new styles style are)
 declare_appends styles new style r x are (inr e) k h = absurd (let m : Ok x ≡ no_memory = sym k ∙ e in cc)
 
 abbrev cause_in : Cause → Result Declared Cause → Cause

@@ -8,7 +8,7 @@ use Rattle.journal_format.specs.CanonicalText.{txn_text, body_text, marked}
 use Rattle.journal_format.specs.Pieces.{located, Reads}
 use Rattle.journal_format.specs.Printable.{IsPrintable}
 use Rattle.journal_format.proofs.PrintLemmas.{reads_back}
-use Rattle.journal_balance.specs.Legs.{legs_of}
+use Rattle.journal_balance.specs.Legs.{balanced_entry}
 use Rattle.treasury_state.specs.declared.record.Record.{Record}
 use Rattle.treasury_state.specs.declared.rows.EntryRow.{EntryRow}
 use Rattle.treasury_state.specs.Good.{IsGoodRecord}
@@ -69,13 +69,13 @@ row_txn styles branch nr row t own h r p =
 
 pub row_legs : (styles : List Style) (branch nr : ℕ) (row : EntryRow) (t : Txn) (own : List ℕ)
     → ReadsRow styles row t own → (r : Record) → IsEntryRow styles branch nr row r
-    → legs_of styles (marked t (Some own)) ≡ Ok r.entry
+    → balanced_entry styles (marked t (Some own)) ≡ Ok r.entry
 row_legs styles branch nr row t own h r p =
-    ap (legs_of styles) (sym (row_txn styles branch nr row t own h r p)) ∙ p.0.legs
+    ap (balanced_entry styles) (sym (row_txn styles branch nr row t own h r p)) ∙ p.0.legs
 
 pub record_only : (styles : List Style) (branch nr : ℕ) (row : EntryRow) (t : Txn) (own mark : List ℕ) (entry : Entry)
     → ReadsRow styles row t own → mark ≡ row.mark
-    → ((x : Entry) → legs_of styles (marked t (Some own)) ≡ Ok x → x ≡ entry) → (r : Record)
+    → ((x : Entry) → balanced_entry styles (marked t (Some own)) ≡ Ok x → x ≡ entry) → (r : Record)
     → IsEntryRow styles branch nr row r
     → r ≡ record { mark = mark; txn = marked t (Some own); entry = entry }
 record_only styles branch nr row t own mark entry h is legs r p =

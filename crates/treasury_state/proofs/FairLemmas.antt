@@ -16,7 +16,8 @@ use Rattle.book_core.specs.declared.account.Reach.TheVariants.{Own}
 use Rattle.book_core.specs.declared.place.Until.TheVariants.{Through}
 use Rattle.book_core.specs.Balance.{balance}
 use Rattle.treasury_state.specs.declared.transfer.Transfer.{Transfer}
-use Rattle.treasury_state.specs.Federation.{Branch, Federation, is_name_byte, is_branch_name, has_name, has_branch}
+use Rattle.treasury_state.specs.Federation.{Branch, Federation, is_branch_name_byte, is_branch_name, has_name}
+use Rattle.treasury_state.specs.Federation.{has_branch}
 use Rattle.treasury_state.specs.Federation.{records_in, entries}
 use Rattle.treasury_state.specs.Transfer.{open_amount, transit_account, AddsUp}
 use Rattle.treasury_state.specs.Good.{IsGoodBranch, IsGoodTransfer, IsCarried, IsGoodState}
@@ -26,24 +27,26 @@ use Rattle.treasury_state.proofs.CarriedLemmas.{carried_agree}
 use Rattle.treasury_state.proofs.WayLemmas.{IsInStep, AddUp, adds_up, open_sum_low}
 
 -- no byte of a name is a colon
-no_colon_byte : (c : ℕ) → is_name_byte c ≡ true → nat_eq c 58 ≡ false
+no_colon_byte : (c : ℕ) → is_branch_name_byte c ≡ true → nat_eq c 58 ≡ false
 no_colon_byte c h = by_test (nat_eq c 58) refl
   where
     by_test : (b : Bool) → nat_eq c 58 ≡ b → b ≡ false
     by_test true e = let same : c ≡ 58 = grind (arith, nat_tests) in absurd
-        (let k : true ≡ is_name_byte 58 = sym h ∙ ap is_name_byte same in cc)
+        (let k : true ≡ is_branch_name_byte 58 = sym h ∙ ap is_branch_name_byte same in cc)
     by_test false e = refl
 
-no_colon_in : (name : List ℕ) → list_all is_name_byte name ≡ true → HasNoColon name
+no_colon_in : (name : List ℕ) → list_all is_branch_name_byte name ≡ true → HasNoColon name
 no_colon_in [] h = tt
 no_colon_in (c ∷ cs) h = let parts =
-    and_parts (is_name_byte c) (list_all is_name_byte cs) h in (no_colon_byte c parts.0, no_colon_in cs parts.1)
+    and_parts (is_branch_name_byte c) (list_all is_branch_name_byte cs)
+    h in (no_colon_byte c parts.0, no_colon_in cs parts.1)
 
 pub no_colon : (name : List ℕ) → is_branch_name name ≡ true → HasNoColon name
 no_colon name h =
     let first =
-    and_parts (is_ascii_lowercase (slice_index name 0) && list_all is_name_byte name) (nat_le (length name) 32) h in
-    let rest = and_parts (is_ascii_lowercase (slice_index name 0)) (list_all is_name_byte name) first.0 in
+    and_parts (is_ascii_lowercase (slice_index name 0) && list_all is_branch_name_byte name) (nat_le (length name) 32)
+    h in
+    let rest = and_parts (is_ascii_lowercase (slice_index name 0)) (list_all is_branch_name_byte name) first.0 in
     no_colon_in name rest.1
 
 -- what holds of each branch holds of one that is there

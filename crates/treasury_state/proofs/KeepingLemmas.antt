@@ -13,7 +13,7 @@ use Rattle.treasury_state.specs.Index.{IsKept}
 use Rattle.treasury_state.specs.Federation.{Branch, Federation, entries}
 use Rattle.treasury_state.specs.Joined.{with_records}
 use Rattle.treasury_state.specs.Good.{IsGoodState}
-use Rattle.treasury_state.specs.Room.{HasRoom}
+use Rattle.treasury_state.specs.Room.{FitsLedger}
 use Rattle.treasury_state.proofs.EntriesLemmas.{entries-append}
 use Rattle.treasury_state.proofs.BackLemmas.{room_fit, room_within}
 
@@ -34,10 +34,10 @@ book_split : (b : Branch) (r : Record) (rs : List Record)
 book_split b r rs = ap entries (sym (append_assoc b.records (r ∷ []) rs)) ∙ entries-append (b.records ++ r ∷ []) rs
 
 room_next : (b all : Branch) (r : Record) (rs items : List Record) → items ≡ r ∷ rs → with_records items b ≡ all
-    → HasRoom all → HasRoom (with_records (r ∷ []) b)
+    → FitsLedger all → FitsLedger (with_records (r ∷ []) b)
 room_next b all r rs items split same h =
-    let room : HasRoom (with_records (r ∷ rs) b) =
-    subst HasRoom (sym same ∙ ap (λ (xs : List Record). with_records xs b) split) h in
+    let room : FitsLedger (with_records (r ∷ rs) b) =
+    subst FitsLedger (sym same ∙ ap (λ (xs : List Record). with_records xs b) split) h in
     record {
       fit = all_front IsFit (entries (b.records ++ r ∷ [])) (entries rs)
           (subst (AllByRecursion IsFit) (book_split b r rs) room.fit);
@@ -46,11 +46,11 @@ room_next b all r rs items split same h =
     }
 
 pub next_fit : (b all : Branch) (r : Record) (rs items : List Record) → items ≡ r ∷ rs → with_records items b ≡ all
-    → HasRoom all → IsFit r.entry
+    → FitsLedger all → IsFit r.entry
 next_fit b all r rs items split same h = room_fit b r (room_next b all r rs items split same h)
 
 pub next_within : (b all : Branch) (r : Record) (rs items : List Record) → items ≡ r ∷ rs → with_records items b ≡ all
-    → HasRoom all → IsWithin (entries b.records ++ r.entry ∷ [])
+    → FitsLedger all → IsWithin (entries b.records ++ r.entry ∷ [])
 next_within b all r rs items split same h = room_within b r (room_next b all r rs items split same h)
 
 -- a state of equal parts

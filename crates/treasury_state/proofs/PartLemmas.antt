@@ -14,12 +14,12 @@ use Rattle.money_core.proofs.ListLemmas.{drop_at, all_weaker}
 use Rattle.treasury_state.specs.declared.transfer.Part.{Part}
 use Rattle.treasury_state.specs.declared.transfer.Receipt.{Receipt}
 use Rattle.treasury_state.specs.declared.transfer.Transfer.{Transfer}
-use Rattle.treasury_state.specs.Transfer.{sum_of, rest_part, of_rest, receipts_of, left_of, received_by, open_of}
+use Rattle.treasury_state.specs.Transfer.{sum_of_parts, rest_part, of_rest, receipts_of, left_of, received_by, open_of}
 use Rattle.treasury_state.specs.Good.{IsGoodPart, HasGoodParts}
 
 -- ---- sums
 
-pub sum_of-append : (xs ys : List Part) → sum_of (xs ++ ys) ≡ sum_of xs +ℤ sum_of ys
+pub sum_of-append : (xs ys : List Part) → sum_of_parts (xs ++ ys) ≡ sum_of_parts xs +ℤ sum_of_parts ys
 sum_of-append [] ys = omega (arith, ints)
 sum_of-append (x ∷ xs) ys = let i = sum_of-append xs ys in omega (arith, ints)
 
@@ -30,7 +30,7 @@ IsPositive p = int_le (pos 1) p.qty ≡ true
 pub all_positive : (d : Day) (ps : List Part) → AllByRecursion (IsGoodPart d) ps → AllByRecursion IsPositive ps
 all_positive d ps h = all_weaker (IsGoodPart d) IsPositive ps (λ p k. k.positive) h
 
-pub sum_low : (ps : List Part) → AllByRecursion IsPositive ps → pos 0 ≤ℤ sum_of ps
+pub sum_low : (ps : List Part) → AllByRecursion IsPositive ps → pos 0 ≤ℤ sum_of_parts ps
 sum_low [] h = omega (arith, ints)
 sum_low (p ∷ ps) h = let a = le_from_int_le (pos 1) p.qty h.0 in let b = sum_low ps h.1 in omega (arith, ints)
 
@@ -53,7 +53,7 @@ received_low [] d h = omega (arith, ints)
 received_low (p ∷ ps) d h =
     let a = share_low (int_le p.day.0 d.0) p.qty h.0 in let b = received_low ps d h.1 in omega (arith, ints)
 
-pub received_high : (ps : List Part) (d : Day) → AllByRecursion IsPositive ps → received_by ps d ≤ℤ sum_of ps
+pub received_high : (ps : List Part) (d : Day) → AllByRecursion IsPositive ps → received_by ps d ≤ℤ sum_of_parts ps
 received_high [] d h = omega (arith, ints)
 received_high (p ∷ ps) d h =
     let a = share_high (int_le p.day.0 d.0) p.qty h.0 in let b = received_high ps d h.1 in omega (arith, ints)
@@ -68,32 +68,32 @@ open_without t d sent none =
 
 pub open_with : (t : Transfer) (d : Day) (r : Receipt) (b : Bool) → int_le t.day.0 d.0 ≡ true → t.receipt ≡ Some r
     → int_le r.day.0 d.0 ≡ b
-    → open_of t d ≡ (t.qty -ℤ received_by t.parts d) -ℤ (if b then t.qty -ℤ sum_of t.parts else pos 0)
+    → open_of t d ≡ (t.qty -ℤ received_by t.parts d) -ℤ (if b then t.qty -ℤ sum_of_parts t.parts else pos 0)
 open_with t d r b sent some by =
     let a : open_of t d ≡ t.qty -ℤ received_by (t.parts ++ rest_part t r ∷ []) d =
     ap (λ (c : Bool). (if c then t.qty else pos 0) -ℤ received_by (receipts_of t) d) sent ∙ ap
     (λ (o : Option Receipt). t.qty -ℤ received_by (t.parts ++ of_rest t o) d) some in
     let split = received_by-append t.parts (rest_part t r ∷ []) d in
-    let last : received_by (rest_part t r ∷ []) d ≡ (if b then t.qty -ℤ sum_of t.parts else pos 0) +ℤ pos 0 =
-    ap (λ (c : Bool). (if c then t.qty -ℤ sum_of t.parts else pos 0) +ℤ pos 0) by in
+    let last : received_by (rest_part t r ∷ []) d ≡ (if b then t.qty -ℤ sum_of_parts t.parts else pos 0) +ℤ pos 0 =
+    ap (λ (c : Bool). (if c then t.qty -ℤ sum_of_parts t.parts else pos 0) +ℤ pos 0) by in
     omega (arith, ints)
 
 -- the first of the parts that are left
 pub sum_more : (ps : List Part) (i : ℕ) (p : Part) → i < length ps → p ≡ get_or ps i p
-    → sum_of (drop i ps) ≡ p.qty +ℤ sum_of (drop (i + 1) ps)
-sum_more ps i p h is = ap sum_of (drop_at ps i p h is)
+    → sum_of_parts (drop i ps) ≡ p.qty +ℤ sum_of_parts (drop (i + 1) ps)
+sum_more ps i p h is = ap sum_of_parts (drop_at ps i p h is)
 
 pub all_left : (P : Part → Type 0) (ps : List Part) (i : ℕ) (p : Part) → i < length ps → p ≡ get_or ps i p
     → AllByRecursion P (drop i ps) → P p × AllByRecursion P (drop (i + 1) ps)
 all_left P ps i p h is all = subst (AllByRecursion P) (drop_at ps i p h is) all
 
-rest_within : (t : Transfer) (o : Option Receipt) → int_le (sum_of t.parts) t.qty ≡ true
-    → (sum_of t.parts +ℤ sum_of (of_rest t o)) ≤ℤ t.qty
-rest_within t None h = let k = le_from_int_le (sum_of t.parts) t.qty h in omega (arith, ints)
+rest_within : (t : Transfer) (o : Option Receipt) → int_le (sum_of_parts t.parts) t.qty ≡ true
+    → (sum_of_parts t.parts +ℤ sum_of_parts (of_rest t o)) ≤ℤ t.qty
+rest_within t None h = let k = le_from_int_le (sum_of_parts t.parts) t.qty h in omega (arith, ints)
 rest_within t (Some r) h = omega (arith, ints)
 
 -- the receipts together are at most the amount
-pub received_within : (t : Transfer) → HasGoodParts t → sum_of (receipts_of t) ≤ℤ t.qty
+pub received_within : (t : Transfer) → HasGoodParts t → sum_of_parts (receipts_of t) ≤ℤ t.qty
 received_within t good = let a = sum_of-append t.parts (of_rest t t.receipt) in let b =
     rest_within t t.receipt good.within in omega (arith, ints)
 
@@ -103,8 +103,8 @@ received_within t good = let a = sum_of-append t.parts (of_rest t t.receipt) in 
 pub left_some : (t : Transfer) (r : Receipt) → t.receipt ≡ Some r → left_of t ≡ pos 0
 left_some t r e =
     let a = sum_of-append t.parts (of_rest t t.receipt) in
-    let b : sum_of (of_rest t t.receipt) ≡ (t.qty -ℤ sum_of t.parts) +ℤ pos 0 =
-    ap (λ (o : Option Receipt). sum_of (of_rest t o)) e in
+    let b : sum_of_parts (of_rest t t.receipt) ≡ (t.qty -ℤ sum_of_parts t.parts) +ℤ pos 0 =
+    ap (λ (o : Option Receipt). sum_of_parts (of_rest t o)) e in
     omega (arith, ints)
 
 -- ---- quantities within the limit

@@ -20,7 +20,8 @@ use Rattle.treasury_state.specs.declared.transfer.Part.{Part}
 use Rattle.treasury_state.specs.declared.transfer.Receipt.{Receipt}
 use Rattle.treasury_state.specs.declared.transfer.Transfer.{Transfer}
 use Rattle.treasury_state.specs.Mark.{held, HaveOwnMarks, is_of_transfer}
-use Rattle.treasury_state.specs.Transfer.{transit_account, asked, out_records, in_records, sum_of, of_rest, receipts_of}
+use Rattle.treasury_state.specs.Transfer.{transit_account, asked, out_records, in_records, sum_of_parts, of_rest}
+use Rattle.treasury_state.specs.Transfer.{receipts_of}
 use Rattle.treasury_state.specs.Transfer.{dispatch_record, receipt_record, received_by, open_of, is_between}
 use Rattle.treasury_state.specs.Transfer.{open_amount, is_transit, is_reserved}
 use Rattle.treasury_state.specs.Federation.{Branch, entries}
@@ -316,7 +317,7 @@ adds_up ts f t ids fair hf ht apart u d =
 -- what is open is never negative
 -- through a day no more than in all
 pub by_day : (t : Transfer) (d : Day) (ps : List Part) → AllByRecursion (IsGoodPart t.day) ps
-    → received_by ps d ≤ℤ sum_of ps
+    → received_by ps d ≤ℤ sum_of_parts ps
 by_day t d [] h = omega (arith, ints)
 by_day t d (p ∷ ps) h =
     let a = share_high (int_le p.day.0 d.0) p.qty h.0.positive in let b = by_day t d ps h.1 in omega (arith, ints)

@@ -24,8 +24,8 @@ pub record Federation : Type 0 where
   pub transfers : List Transfer
 
 -- a lower-case ASCII letter, a digit or `-`
-abbrev pub is_name_byte : ℕ → Bool
-is_name_byte b = is_ascii_lowercase b || is_ascii_digit b || (b == 45)
+abbrev pub is_branch_name_byte : ℕ → Bool
+is_branch_name_byte b = is_ascii_lowercase b || is_ascii_digit b || (b == 45)
 
 -- the greatest number of bytes of a branch's name
 abbrev pub most_name_bytes : ℕ
@@ -34,7 +34,7 @@ most_name_bytes = 32
 -- a branch's name: a lower-case ASCII letter, then 0 to 31 lower-case letters, digits or `-`
 abbrev pub is_branch_name : List ℕ → Bool
 is_branch_name name =
-    is_ascii_lowercase (slice_index name 0) && list_all is_name_byte name && nat_le (length name) most_name_bytes
+    is_ascii_lowercase (slice_index name 0) && list_all is_branch_name_byte name && nat_le (length name) most_name_bytes
 
 -- the greatest number of branches
 abbrev pub most_branches : ℕ

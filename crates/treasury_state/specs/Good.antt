@@ -12,7 +12,7 @@ use Rattle.money_core.specs.Style.{AreStyles}
 use Rattle.book_core.specs.Account.{name_cmp}
 use Rattle.book_core.specs.GoodBook.{IsGoodBook}
 use Rattle.journal_format.specs.Printable.{IsPrintable}
-use Rattle.journal_balance.specs.Legs.{legs_of}
+use Rattle.journal_balance.specs.Legs.{balanced_entry}
 use Rattle.treasury_state.specs.declared.record.Record.{Record}
 use Rattle.treasury_state.specs.declared.transfer.Part.{Part}
 use Rattle.treasury_state.specs.declared.transfer.Receipt.{Receipt}
@@ -20,13 +20,13 @@ use Rattle.treasury_state.specs.declared.transfer.Transfer.{Transfer}
 use Rattle.treasury_state.specs.Federation.{Branch, Federation, is_branch_name, most_branches, has_name, entries}
 use Rattle.treasury_state.specs.Federation.{is_locked}
 use Rattle.treasury_state.specs.Mark.{is_held, held, HaveOwnMarks, is_of_transfer, is_closing, close_mark}
-use Rattle.treasury_state.specs.Transfer.{is_id, is_reserved, is_transit, is_key, sum_of, rest_part, asked}
+use Rattle.treasury_state.specs.Transfer.{is_id, is_reserved, is_transit, is_key, sum_of_parts, rest_part, asked}
 
 -- a record whose transaction has its mark and can be printed, and whose entry is what that transaction does
 pub record IsGoodRecord (styles : List Style) (r : Record) : Type 0 where
   pub marked : r.txn.mark ≡ Some r.mark
   pub printable : IsPrintable styles r.txn
-  pub legs : legs_of styles r.txn ≡ Ok r.entry
+  pub legs : balanced_entry styles r.txn ≡ Ok r.entry
 
 -- unless it is of a transfer, a record has no leg on `assets:transit` or below it
 abbrev pub IsOffTransit : Record → Type 0
@@ -84,7 +84,7 @@ pub record HasGoodParts (t : Transfer) : Type 0 where
   pub keys : AllByRecursion (λ (p : Part). is_key p.key ≡ true) t.parts
   pub keyed : AreKeyed t.parts
   pub each : AllByRecursion (IsGoodPart t.day) t.parts
-  pub within : int_le (sum_of t.parts) t.qty ≡ true
+  pub within : int_le (sum_of_parts t.parts) t.qty ≡ true
 
 -- the receipt of the rest is one of something
 abbrev pub IsGoodRest : Transfer → Option Receipt → Type 0

@@ -18,9 +18,9 @@ unfoldable pub hash_mark : List ℕ → ℕ → List ℕ
 hash_mark text n = codes "h-" ++ (encode_lower (sha256 text) ++ (codes "-" ++ decimal n))
 
 -- the mark of a transaction: its own, or that of its canonical text
-abbrev pub mark_of : List Style → Txn → ℕ → Option (List ℕ) → List ℕ
-mark_of styles t n (Some mark) = mark
-mark_of styles t n None = hash_mark (body_text styles t) n
+abbrev pub transaction_mark : List Style → Txn → ℕ → Option (List ℕ) → List ℕ
+transaction_mark styles t n (Some mark) = mark
+transaction_mark styles t n None = hash_mark (body_text styles t) n
 
 -- how many unmarked transactions of the list have that canonical text
 abbrev pub alike : List Style → List ℕ → List Txn → ℕ

@@ -19,12 +19,12 @@ abbrev pub is_key_before : List ℕ → Part → Bool
 is_key_before key p = is_lt (name_cmp p.key key)
 
 -- a branch whose ledger takes its records: their entries are fit, and within the limits
-pub record HasRoom (b : Branch) : Type 0 where
+pub record FitsLedger (b : Branch) : Type 0 where
   pub fit : AllByRecursion IsFit (entries b.records)
   pub within : IsWithin (entries b.records)
 
 -- a state of which styles and ledgers take all that it has, its transfers in order
 pub record IsRoomy (f : Federation) : Type 0 where
   pub styles : AreStyles f.styles
-  pub branches : AllByRecursion HasRoom f.branches
+  pub branches : AllByRecursion FitsLedger f.branches
   pub ids : AreAscending f.transfers

@@ -95,13 +95,13 @@ abbrev pub is_key : List ℕ → Bool
 is_key key = nat_lt 0 (length key) && nat_le (length key) most_key_bytes && list_all is_id_byte key && not (is_all key)
 
 -- what receipts are together
-abbrev pub sum_of : List Part → ℤ
-sum_of [] = pos 0
-sum_of (p ∷ ps) = p.qty +ℤ sum_of ps
+abbrev pub sum_of_parts : List Part → ℤ
+sum_of_parts [] = pos 0
+sum_of_parts (p ∷ ps) = p.qty +ℤ sum_of_parts ps
 
 -- the receipt under the key `all` is of the amount less all others
 abbrev pub rest_part : Transfer → Receipt → Part
-rest_part t r = record { key = all_key; qty = t.qty -ℤ sum_of t.parts; day = r.day; payee = r.payee }
+rest_part t r = record { key = all_key; qty = t.qty -ℤ sum_of_parts t.parts; day = r.day; payee = r.payee }
 
 abbrev pub of_rest : Transfer → Option Receipt → List Part
 of_rest t None = []
@@ -113,7 +113,7 @@ receipts_of t = t.parts ++ of_rest t t.receipt
 
 -- what is left: the amount less all receipts, of any day
 abbrev pub left_of : Transfer → ℤ
-left_of t = t.qty -ℤ sum_of (receipts_of t)
+left_of t = t.qty -ℤ sum_of_parts (receipts_of t)
 
 -- ---- the records that a transfer asks for
 

@@ -11,7 +11,7 @@ ghost use Rattle.treasury_state.specs.Good.{AreAscending, IsGoodState};
 ghost use Rattle.treasury_state.specs.Seen.{branch_of, branches_of, federation_of};
 ghost use Rattle.treasury_state.specs.Kept.{ArePlacesOf};
 ghost use Rattle.treasury_state.specs.Index.{IsKept};
-ghost use Rattle.treasury_state.specs.Room.{HasRoom, IsRoomy};
+ghost use Rattle.treasury_state.specs.Room.{FitsLedger, IsRoomy};
 
 use crate::delta::{Addition, Delta};
 use crate::index::{push_marked, put_place};
@@ -63,7 +63,7 @@ fn apply_record<L: Ledger>(
 ) -> Result<(), Cause>
     requires kept { AllByRecursion (IsKept L.book) branches.old.items }
     requires places { ArePlacesOf places.now (branches_of branches.old.items) }
-    requires room { AllByRecursion HasRoom
+    requires room { AllByRecursion FitsLedger
         (changed (with_records (row ∷ [])) name.now (branches_of branches.old.items)) }
     ensures ok { OnOk result (branches_of branches.new.items
         ≡ changed (with_records (row ∷ [])) name.now (branches_of branches.old.items)) }

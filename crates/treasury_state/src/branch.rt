@@ -2,7 +2,7 @@
 
 ghost use Rattle.std.specs.Prelude.{◌≡◌, slice_index};
 ghost use Rattle.std.specs.List.{list_all};
-ghost use Rattle.treasury_state.specs.Federation.{is_name_byte, is_branch_name, is_locked};
+ghost use Rattle.treasury_state.specs.Federation.{is_branch_name_byte, is_branch_name, is_locked};
 
 use money_core::Day;
 
@@ -14,14 +14,14 @@ const MAX_NAME: usize = 32;
 
 /// Whether the byte may stand in a branch's name.
 fn is_name_byte(byte: u8) -> bool
-    ensures { result ≡ is_name_byte byte }
+    ensures { result ≡ is_branch_name_byte byte }
 {
     byte.is_ascii_lowercase() || byte.is_ascii_digit() || byte == b'-'
 }
 
 /// Whether each byte may stand in a branch's name.
 fn has_name_bytes(name: &[u8]) -> bool
-    ensures { result ≡ list_all is_name_byte name.now }
+    ensures { result ≡ list_all is_branch_name_byte name.now }
 {
     name.iter().all(|b| is_name_byte(*b))
 }

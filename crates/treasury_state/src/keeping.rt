@@ -8,7 +8,7 @@ ghost use Rattle.treasury_state.specs.Federation.{entries};
 ghost use Rattle.treasury_state.specs.Good.{IsGoodState};
 ghost use Rattle.treasury_state.specs.Seen.{branch_of};
 ghost use Rattle.treasury_state.specs.Index.{IsKept};
-ghost use Rattle.treasury_state.specs.Room.{HasRoom};
+ghost use Rattle.treasury_state.specs.Room.{FitsLedger};
 
 use crate::applying::add_record;
 use crate::draft::{Draft, DraftBranch};
@@ -21,7 +21,7 @@ use std::collections::HashMap;
 
 /// The branch with its index and its ledger.
 fn branch_of<L: Ledger>(alloc: Global, branch: DraftBranch) -> Result<Branch<L>, Cause>
-    requires { HasRoom branch }
+    requires { FitsLedger branch }
     ensures value { IfOk result (λ kept. branch_of kept ≡ branch) }
     ensures kept { IfOk result (λ kept. IsKept L.book kept) }
     ensures memory { IsOkUnless result Cause.OutOfMemory }

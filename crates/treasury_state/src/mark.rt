@@ -4,7 +4,7 @@ ghost use Rattle.std.specs.Prelude.{◌≡◌, IfOk};
 ghost use Rattle.std.specs.Result.{IsOkUnless};
 ghost use Rattle.journal_format.specs.CanonicalText.{body_text};
 ghost use Rattle.journal_format.specs.Printable.{IsPrintable};
-ghost use Rattle.treasury_state.specs.Mark.{hash_mark, mark_of};
+ghost use Rattle.treasury_state.specs.Mark.{hash_mark, transaction_mark};
 
 use journal_format::{Txn, body};
 use money_core::{Cause, Copied, Styles, Text};
@@ -47,7 +47,7 @@ pub fn hash_mark(alloc: Global, text: &[u8], n: usize) -> Result<Text, Cause>
 /// Where memory is refused, it answers 40.
 pub fn mark_of(alloc: Global, txn: &Txn, n: usize, styles: &Styles) -> Result<Text, Cause>
     requires { IsPrintable styles.now txn.now }
-    ensures value { IfOk result (λ mark. mark ≡ mark_of styles.now txn.now n txn.now.mark) }
+    ensures value { IfOk result (λ mark. mark ≡ transaction_mark styles.now txn.now n txn.now.mark) }
     ensures memory { IsOkUnless result Cause.OutOfMemory }
 {
     match &txn.mark {

@@ -2,7 +2,7 @@
 
 ghost use Rattle.std.specs.Prelude.{◌≡◌, ◌-ℤ◌, IfOk};
 ghost use Rattle.std.specs.Result.{IsOkUnless};
-ghost use Rattle.treasury_state.specs.Transfer.{is_all, sum_of, rest_part, left_of};
+ghost use Rattle.treasury_state.specs.Transfer.{is_all, sum_of_parts, rest_part, left_of};
 ghost use Rattle.treasury_state.specs.Good.{HasGoodParts};
 
 use money_core::{Cause, Copied, Day, Items, Text, Unit};
@@ -59,7 +59,7 @@ pub(crate) fn is_all(key: &str) -> bool
 /// What the parts of the transfer leave of its amount.
 pub fn rest_of(transfer: &Transfer) -> i64
     requires { HasGoodParts transfer.now }
-    ensures { result ≡ transfer.now.qty -ℤ sum_of transfer.now.parts }
+    ensures { result ≡ transfer.now.qty -ℤ sum_of_parts transfer.now.parts }
 {
     let mut left = transfer.qty;
     'part: for part in transfer.parts.items() {

@@ -5,7 +5,7 @@ ghost use Rattle.std.specs.List.{AllByRecursion};
 ghost use Rattle.std.specs.Str.{bytes_eq};
 ghost use Rattle.treasury_state.specs.declared.transfer.Part.{Part as TransferPart};
 ghost use Rattle.treasury_state.specs.Federation.{has_branch};
-ghost use Rattle.treasury_state.specs.Transfer.{sum_of, received_by, open_amount, open_of, is_between, AddsUp};
+ghost use Rattle.treasury_state.specs.Transfer.{sum_of_parts, received_by, open_amount, open_of, is_between, AddsUp};
 ghost use Rattle.treasury_state.specs.Fair.{IsFair};
 
 use crate::state::State;
@@ -23,7 +23,7 @@ fn part_by(part: &Part, day: Day) -> i64
 /// What was received of parts through the day, each of which has a positive quantity.
 fn received_by(parts: &[Part], day: Day) -> i64
     requires positive { AllByRecursion (λ (p : TransferPart). int_le (pos 1) p.qty ≡ true) parts.now }
-    requires small { sum_of parts.now ≤ℤ pos 9223372036854775807 }
+    requires small { sum_of_parts parts.now ≤ℤ pos 9223372036854775807 }
     ensures { result ≡ received_by parts.now day }
 {
     let mut sum: i64 = 0;

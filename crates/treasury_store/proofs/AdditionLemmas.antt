@@ -40,14 +40,16 @@ use Rattle.treasury_state.proofs.PlaceLemmas.{changed_past}
 use Rattle.treasury_laws.specs.History.{Grows}
 use Rattle.treasury_laws.proofs.HeadlineLemmas.{grows_twice}
 use Rattle.treasury_tables.specs.declared.change.Change.TheVariants as change
-use Rattle.treasury_tables.specs.Rows.{Tables, locked, received as takes, written}
+use Rattle.treasury_tables.specs.Rows.{Tables, row_locked, row_received as takes, written}
 use Rattle.treasury_tables.proofs.SameLemmas.{Same, same_refl, same_trans, same_written, other_units, written-append}
 use Rattle.treasury_tables.proofs.SameLemmas.{legs_written, claims_written, front_past, second_first}
 use Rattle.treasury_store.specs.Numbers.{records_each, numbers_of}
 use Rattle.treasury_store.specs.Store.{Finds, FindsAll}
-use Rattle.treasury_store.specs.Changes.{Counts, named, place_in, record_changes, receipt_change, changes_by, counted}
-use Rattle.treasury_store.specs.Changes.{changes_from, counted_all, style_with, name_with, styles_with, names_with}
-use Rattle.treasury_store.specs.Changes.{counts_of, changes_of, numbers_with}
+use Rattle.treasury_store.specs.Changes.{Counts, branches_named, place_in, record_changes, receipt_change, changes_by}
+use Rattle.treasury_store.specs.Changes.{counts_after}
+use Rattle.treasury_store.specs.Changes.{changes_from, counts_after_all, styles_with_one, names_with_one, styles_with}
+use Rattle.treasury_store.specs.Changes.{names_with}
+use Rattle.treasury_store.specs.Changes.{counts_of_numbering, changes_of, numbers_with}
 use Rattle.treasury_store.proofs.NumberedLemmas.{place_named, IsFront, front_place, one_more, rows_from}
 use Rattle.treasury_store.proofs.NumberedLemmas.{none_more, rows-locked, record_in, branch_rows, branches-entered}
 use Rattle.treasury_store.proofs.NumberedLemmas.{none_locked, branch_locked, each-entered, each-locked, names-changed}
@@ -60,7 +62,7 @@ rows_under S N f = record {
   entries = flat_map (λ (p : ℕ × Branch). entry_rows_from S p.0 1 p.1.records) (enumerate_from 0 f.branches);
   legs = rows_from leg_rows 0 f.branches;
   claims = rows_from claim_rows 0 f.branches;
-  transfers = map (transfer_row (named N)) f.transfers;
+  transfers = map (transfer_row (branches_named N)) f.transfers;
   receipts = part_rows f.transfers;
 }
 
@@ -248,7 +250,7 @@ module _ (S : List Style) (N : List (List ℕ)) (f : Federation) (more : List (L
   count_of = length-map bs (λ (b : Branch). length b.records)
 
   branch_step : (name : List ℕ) → Same
-      (written (changes_by S N (counts_of (numbers_of f)) (add.Branch name)) (rows_under S N f))
+      (written (changes_by S N (counts_of_numbering (numbers_of f)) (add.Branch name)) (rows_under S N f))
       (rows_under S N (joined_one f (add.Branch name)))
   branch_step name = record {
     units = IsPermutation-refl (rows_under S N f).units;
@@ -312,7 +314,8 @@ module _ (S : List Style) (N : List (List ℕ)) (f : Federation) (more : List (L
       (same_refl (rows_under S N f))
 
   lock_rows : (name : List ℕ) (day : Day)
-      → map (locked (pos (place_in N name)) day.0) (branch_rows 0 bs) ≡ branch_rows 0 (changed (with_lock day) name bs)
+      → map (row_locked (pos (place_in N name)) day.0) (branch_rows 0 bs) ≡ branch_rows 0
+      (changed (with_lock day) name bs)
   lock_rows name day = elim (lt_or_le (place_in N name) (length bs)) [
     | inl l ↦ branch_locked (place_in N name) 0 day name bs (let same = place_same name l in omega (arith, same))
     | inr l ↦ none_locked (place_in N name) 0 day.0 bs (inr (omega (arith, l))) ∙ ap (branch_rows 0)
@@ -320,7 +323,7 @@ module _ (S : List Style) (N : List (List ℕ)) (f : Federation) (more : List (L
   ]
 
   lock_step : (name : List ℕ) (day : Day)
-      → Same (written (changes_by S N (counts_of (numbers_of f)) (add.Locked name day)) (rows_under S N f))
+      → Same (written (changes_by S N (counts_of_numbering (numbers_of f)) (add.Locked name day)) (rows_under S N f))
       (rows_under S N (joined_one f (add.Locked name day)))
   lock_step name day = record {
     units = IsPermutation-refl (rows_under S N f).units;
@@ -344,7 +347,7 @@ module _ (S : List Style) (N : List (List ℕ)) (f : Federation) (more : List (L
         entries = IsPermutation-refl t.entries;
         legs = IsPermutation-refl t.legs;
         claims = IsPermutation-refl t.claims;
-        transfers = same_rows _ _ (takes_is_received (named N) id p f.transfers e h);
+        transfers = same_rows _ _ (takes_is_received (branches_named N) id p f.transfers e h);
         receipts = same_rows _ _ (sym (rest_leaves id p f.transfers e));
       }
   received_step id p false e h found =
@@ -355,12 +358,12 @@ module _ (S : List Style) (N : List (List ℕ)) (f : Federation) (more : List (L
         entries = IsPermutation-refl t.entries;
         legs = IsPermutation-refl t.legs;
         claims = IsPermutation-refl t.claims;
-        transfers = same_rows _ _ (sym (left_rows (named N) id p f.transfers e));
+        transfers = same_rows _ _ (sym (left_rows (branches_named N) id p f.transfers e));
         receipts = one_row_more id p f.transfers e (found e);
       }
 
   dispatched_step : (t : Transfer) → t.parts ≡ []
-      → Same (written (changes_by S N (counts_of (numbers_of f)) (add.Dispatched t)) (rows_under S N f))
+      → Same (written (changes_by S N (counts_of_numbering (numbers_of f)) (add.Dispatched t)) (rows_under S N f))
       (rows_under S N (joined_one f (add.Dispatched t)))
   dispatched_step t e =
       let u = rows_under S N f in
@@ -370,13 +373,13 @@ module _ (S : List Style) (N : List (List ℕ)) (f : Federation) (more : List (L
         entries = IsPermutation-refl u.entries;
         legs = IsPermutation-refl u.legs;
         claims = IsPermutation-refl u.claims;
-        transfers = IsPermutation-map (transfer_row (named N)) (t ∷ f.transfers) (inserted t f.transfers)
+        transfers = IsPermutation-map (transfer_row (branches_named N)) (t ∷ f.transfers) (inserted t f.transfers)
             (put_in t f.transfers);
         receipts = same_rows _ _ (sym (new_leaves t f.transfers e));
       }
 
   pub step : (x : Addition) → HaveOwnIds f.transfers → Finds f x
-      → Same (written (changes_by S N (counts_of (numbers_of f)) x) (rows_under S N f))
+      → Same (written (changes_by S N (counts_of_numbering (numbers_of f)) x) (rows_under S N f))
       (rows_under S N (joined_one f x))
   step (add.Commodity style) h found =
       let t = rows_under S N f in other_units t t _ _ (same_refl t) (one_more unit_row f.styles style)
@@ -400,7 +403,8 @@ module _ (S : List Style) (N : List (List ℕ)) (f : Federation) (more : List (L
   abbrev counts_as : ℕ → List ℕ → Counts
   counts_as n ks = record { units = n; records = ks }
 
-  pub count_step : (x : Addition) → counted N (counts_of (numbers_of f)) x ≡ counts_of (numbers_of (joined_one f x))
+  pub count_step : (x : Addition)
+      → counts_after N (counts_of_numbering (numbers_of f)) x ≡ counts_of_numbering (numbers_of (joined_one f x))
   count_step (add.Commodity style) =
       ap (λ (n : ℕ). counts_as n (records_each bs)) (let l = length-append f.styles (style ∷ []) in omega (arith, l))
   count_step (add.Branch name) =
@@ -411,7 +415,7 @@ module _ (S : List Style) (N : List (List ℕ)) (f : Federation) (more : List (L
   count_step (add.Locked name day) = ap (counts_as (length f.styles)) (sym (each-locked day name bs))
 
 -- ---- styles and names grow
-style_joined : (f : Federation) (x : Addition) → style_with f.styles x ≡ (joined_one f x).styles
+style_joined : (f : Federation) (x : Addition) → styles_with_one f.styles x ≡ (joined_one f x).styles
 style_joined f (add.Commodity style) = refl
 style_joined f (add.Branch name) = refl
 style_joined f (add.Record name r) = refl
@@ -424,7 +428,8 @@ styles_joined [] f = refl
 styles_joined (x ∷ xs) f =
     ap (λ (styles : List Style). styles_with styles xs) (style_joined f x) ∙ styles_joined xs (joined_one f x)
 
-name_joined : (f : Federation) (x : Addition) → name_with (names_of f.branches) x ≡ names_of (joined_one f x).branches
+name_joined : (f : Federation) (x : Addition)
+    → names_with_one (names_of f.branches) x ≡ names_of (joined_one f x).branches
 name_joined f (add.Commodity style) = refl
 name_joined f (add.Branch name) = sym (map-append (λ (b : Branch). b.name) f.branches (new_branch name ∷ []))
 name_joined f (add.Record name r) = sym (names-changed (with_records (r ∷ [])) name f.branches (λ b. refl))
@@ -438,7 +443,7 @@ names_joined [] f = refl
 names_joined (x ∷ xs) f =
     ap (λ (ns : List (List ℕ)). names_with ns xs) (name_joined f x) ∙ names_joined xs (joined_one f x)
 
-style_grows : (styles : List Style) (x : Addition) → Grows styles (style_with styles x)
+style_grows : (styles : List Style) (x : Addition) → Grows styles (styles_with_one styles x)
 style_grows styles (add.Commodity style) = (style ∷ [], refl)
 style_grows styles (add.Branch name) = ([], sym (append-nil styles))
 style_grows styles (add.Record name r) = ([], sym (append-nil styles))
@@ -448,10 +453,10 @@ style_grows styles (add.Locked name day) = ([], sym (append-nil styles))
 
 pub styles_grow : (xs : List Addition) (styles : List Style) → Grows styles (styles_with styles xs)
 styles_grow [] styles = ([], sym (append-nil styles))
-styles_grow (x ∷ xs) styles = grows_twice styles (style_with styles x) (styles_with (style_with styles x) xs)
-    (style_grows styles x) (styles_grow xs (style_with styles x))
+styles_grow (x ∷ xs) styles = grows_twice styles (styles_with_one styles x) (styles_with (styles_with_one styles x) xs)
+    (style_grows styles x) (styles_grow xs (styles_with_one styles x))
 
-name_grows : (names : List (List ℕ)) (x : Addition) → Grows names (name_with names x)
+name_grows : (names : List (List ℕ)) (x : Addition) → Grows names (names_with_one names x)
 name_grows names (add.Commodity style) = ([], sym (append-nil names))
 name_grows names (add.Branch name) = (name ∷ [], refl)
 name_grows names (add.Record name r) = ([], sym (append-nil names))
@@ -462,8 +467,8 @@ name_grows names (add.Locked name day) = ([], sym (append-nil names))
 names_grow : (xs : List Addition) (names : List (List ℕ)) → Grows names (names_with names xs)
 names_grow [] names = ([], sym (append-nil names))
 names_grow (x ∷ xs) names =
-    grows_twice names (name_with names x) (names_with (name_with names x) xs) (name_grows names x)
-    (names_grow xs (name_with names x))
+    grows_twice names (names_with_one names x) (names_with (names_with_one names x) xs) (name_grows names x)
+    (names_grow xs (names_with_one names x))
 
 pub names_grown : (xs : List Addition) (f : Federation) (N : List (List ℕ)) → N ≡ names_of (joined f xs).branches
     → Grows (names_of f.branches) N
@@ -471,11 +476,11 @@ names_grown xs f N e = let w = names_grow xs (names_of f.branches) in (w.0, e �
 
 -- ---- all additions
 pub all_counted : (N : List (List ℕ)) (xs : List Addition) (f : Federation) → N ≡ names_of (joined f xs).branches
-    → counted_all N (counts_of (numbers_of f)) xs ≡ counts_of (numbers_of (joined f xs))
+    → counts_after_all N (counts_of_numbering (numbers_of f)) xs ≡ counts_of_numbering (numbers_of (joined f xs))
 all_counted N [] f e = refl
 all_counted N (x ∷ xs) f e =
     let w = names_grown (x ∷ xs) f N e in
-    ap (λ (c : Counts). counted_all N c xs) (count_step [] N f w.0 w.1 x) ∙ all_counted N xs (joined_one f x) e
+    ap (λ (c : Counts). counts_after_all N c xs) (count_step [] N f w.0 w.1 x) ∙ all_counted N xs (joined_one f x) e
 
 pub numbers_joined : (f : Federation) (xs : List Addition) → numbers_with (numbers_of f) xs ≡ numbers_of (joined f xs)
 numbers_joined f xs =
@@ -485,14 +490,15 @@ numbers_joined f xs =
 
 all_written : (S : List Style) (N : List (List ℕ)) (xs : List Addition) (f : Federation)
     → N ≡ names_of (joined f xs).branches → IsRoomy (joined f xs) → FindsAll f xs
-    → Same (written (changes_from S N (counts_of (numbers_of f)) xs) (rows_under S N f)) (rows_under S N (joined f xs))
+    → Same (written (changes_from S N (counts_of_numbering (numbers_of f)) xs) (rows_under S N f))
+    (rows_under S N (joined f xs))
 all_written S N [] f e room found = same_refl (rows_under S N f)
 all_written S N (x ∷ xs) f e room found =
     let w = names_grown (x ∷ xs) f N e in
-    let c = counts_of (numbers_of f) in
+    let c = counts_of_numbering (numbers_of f) in
     let next = joined_one f x in
     let first = changes_by S N c x in
-    let rest = changes_from S N (counted N c x) xs in
+    let rest = changes_from S N (counts_after N c x) xs in
     let one = step S N f w.0 w.1 x (own_ids f.transfers (room_back (x ∷ xs) f room).ids) found.0 in
     let later = subst (λ (d : Counts).
     Same (written (changes_from S N d xs) (rows_under S N next)) (rows_under S N (joined next xs)))
@@ -537,7 +543,7 @@ abbrev between : Transfer → ℕ → ℕ → TransferRow
 between t a b = record (transfer_row [] t) { source = pos a; target = pos b }
 
 transfers_grown : (N more : List (List ℕ)) (bs : List Branch) (ts : List Transfer) → N ≡ names_of bs ++ more
-    → AllByRecursion (IsGoodTransfer bs) ts → map (transfer_row (named N)) ts ≡ map (transfer_row bs) ts
+    → AllByRecursion (IsGoodTransfer bs) ts → map (transfer_row (branches_named N)) ts ≡ map (transfer_row bs) ts
 transfers_grown N more held [] e h = refl
 transfers_grown N more held (t ∷ ts) e h =
     let f : Federation = record { styles = []; branches = held; transfers = [] } in

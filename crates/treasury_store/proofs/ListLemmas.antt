@@ -12,7 +12,7 @@ use Rattle.money_core.proofs.ListLemmas.{drop_at}
 use Rattle.treasury_state.specs.declared.delta.Addition.{Addition}
 use Rattle.treasury_state.specs.declared.delta.Addition.TheVariants as add
 use Rattle.treasury_rows.proofs.UnitRowLemmas.{styles_front}
-use Rattle.treasury_store.specs.Changes.{place_in, style_with, name_with, styles_with, names_with}
+use Rattle.treasury_store.specs.Changes.{place_in, styles_with_one, names_with_one, styles_with, names_with}
 use Rattle.treasury_store.proofs.AdditionLemmas.{styles_grow}
 
 pub taken_next : {X : Type 0} (xs : List X) (i : ℕ) (x : X) → slice_get xs i ≡ Some x
@@ -58,7 +58,7 @@ pub styles_on_way : (styles : List Style) (xs : List Addition) → AreStyles (st
 styles_on_way styles xs h = let w = styles_grow xs styles in styles_front styles w.0 (subst AreStyles w.1 h)
 
 pub no_style : (styles : List Style) (x : Addition) → ((style : Style) → x ≡ add.Commodity style → ⊥)
-    → styles ≡ style_with styles x
+    → styles ≡ styles_with_one styles x
 no_style styles (add.Commodity style) h = absurd (h style refl)
 no_style styles (add.Branch name) h = refl
 no_style styles (add.Record name r) h = refl
@@ -67,7 +67,7 @@ no_style styles (add.Received id p) h = refl
 no_style styles (add.Locked name day) h = refl
 
 pub no_name : (names : List (List ℕ)) (x : Addition) → ((name : List ℕ) → x ≡ add.Branch name → ⊥)
-    → names ≡ name_with names x
+    → names ≡ names_with_one names x
 no_name names (add.Commodity style) h = refl
 no_name names (add.Branch name) h = absurd (h name refl)
 no_name names (add.Record name r) h = refl
@@ -78,20 +78,20 @@ no_name names (add.Locked name day) h = refl
 -- ---- one more of the additions that are walked through
 pub more_fit : (styles all : List Style) (xs : List Addition) (i : ℕ) (x : Addition) → i < length xs → x ≡ get_or xs i x
     → styles_with all (drop i xs) ≡ styles_with styles xs → AreStyles (styles_with styles xs)
-    → AreStyles (style_with all x)
+    → AreStyles (styles_with_one all x)
 more_fit styles all xs i x h e so_far good =
-    styles_on_way (style_with all x) (drop (i + 1) xs)
+    styles_on_way (styles_with_one all x) (drop (i + 1) xs)
     (subst AreStyles (sym so_far ∙ ap (styles_with all) (drop_at xs i x h e)) good)
 
 pub more_styles : (styles all new : List Style) (xs : List Addition) (i : ℕ) (x : Addition) → i < length xs
-    → x ≡ get_or xs i x → styles_with all (drop i xs) ≡ styles_with styles xs → new ≡ style_with all x
+    → x ≡ get_or xs i x → styles_with all (drop i xs) ≡ styles_with styles xs → new ≡ styles_with_one all x
     → styles_with new (drop (i + 1) xs) ≡ styles_with styles xs
 more_styles styles all new xs i x h e so_far is =
     ap (λ (s : List Style). styles_with s (drop (i + 1) xs)) is ∙
     (ap (styles_with all) (sym (drop_at xs i x h e)) ∙ so_far)
 
 pub more_names : (names all new : List (List ℕ)) (xs : List Addition) (i : ℕ) (x : Addition) → i < length xs
-    → x ≡ get_or xs i x → names_with all (drop i xs) ≡ names_with names xs → new ≡ name_with all x
+    → x ≡ get_or xs i x → names_with all (drop i xs) ≡ names_with names xs → new ≡ names_with_one all x
     → names_with new (drop (i + 1) xs) ≡ names_with names xs
 more_names names all new xs i x h e so_far is =
     ap (λ (s : List (List ℕ)). names_with s (drop (i + 1) xs)) is ∙

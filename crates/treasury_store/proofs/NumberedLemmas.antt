@@ -14,7 +14,7 @@ use Rattle.treasury_state.specs.declared.rows.BranchRow.{BranchRow}
 use Rattle.treasury_state.specs.Federation.{Branch, name_place, names_of}
 use Rattle.treasury_state.specs.Joined.{new_branch, with_records, with_lock, changed}
 use Rattle.treasury_state.specs.Rows.{branch_row}
-use Rattle.treasury_tables.specs.Rows.{locked}
+use Rattle.treasury_tables.specs.Rows.{row_locked}
 use Rattle.treasury_tables.proofs.SameLemmas.{last_first, front_past}
 use Rattle.treasury_store.specs.Numbers.{records_each}
 use Rattle.treasury_store.specs.Changes.{place_in}
@@ -155,33 +155,34 @@ other_nr n k h = other_test (pos n) (pos k) _ refl (λ (e : pos n ≡ pos k). h 
 
 -- a lock by a number that none of them has
 pub none_locked : (k n : ℕ) (day : ℤ) (bs : List Branch) → (k < n) ⊎ (n + length bs ≤ k)
-    → map (locked (pos k) day) (branch_rows n bs) ≡ branch_rows n bs
+    → map (row_locked (pos k) day) (branch_rows n bs) ≡ branch_rows n bs
 none_locked k n day [] h = refl
 none_locked k n day (b ∷ bs) h =
     let apart : (n ≡ k → ⊥) = λ e. elim h [ inl l ↦ omega (arith, e, l) | inr l ↦ omega (arith, e, l) ] in
     let rest : (k < n + 1) ⊎ ((n + 1) + length bs ≤ k) =
     elim h [ inl l ↦ inl (omega (arith, l)) | inr l ↦ inr (omega (arith, l)) ] in
     ap (λ (c : Bool). cond c (let r : BranchRow = record (branch_row n b) { locked = Some day } in r) (branch_row n b)
-    ∷ map (locked (pos k) day) (branch_rows (n + 1) bs)) (other_nr n k apart)
+    ∷ map (row_locked (pos k) day) (branch_rows (n + 1) bs)) (other_nr n k apart)
     ∙ ap (λ l. branch_row n b ∷ l) (none_locked k (n + 1) day bs rest)
 
 -- a lock by the number of the branch
 locked_at : (k n : ℕ) (day : Day) (b : Branch) (bs xs : List Branch) (q : ℕ) (t : Bool)
     → k ≡ n + (if t then 0 else suc q)
-    → (k ≡ (n + 1) + q → map (locked (pos k) day.0) (branch_rows (n + 1) bs) ≡ branch_rows (n + 1) xs)
-    → map (locked (pos k) day.0) (branch_rows n (b ∷ bs)) ≡ branch_rows n (if t then with_lock day b ∷ bs else b ∷ xs)
+    → (k ≡ (n + 1) + q → map (row_locked (pos k) day.0) (branch_rows (n + 1) bs) ≡ branch_rows (n + 1) xs)
+    → map (row_locked (pos k) day.0) (branch_rows n (b ∷ bs)) ≡ branch_rows n
+    (if t then with_lock day b ∷ bs else b ∷ xs)
 locked_at k n day b bs xs q true e later =
     let here : n ≡ k = omega (arith, e) in
     ap (λ (c : Bool). cond c (let r : BranchRow = record (branch_row n b) { locked = Some day.0 } in r) (branch_row n b)
-    ∷ map (locked (pos k) day.0) (branch_rows (n + 1) bs)) (same_nr n k here)
+    ∷ map (row_locked (pos k) day.0) (branch_rows (n + 1) bs)) (same_nr n k here)
     ∙ ap (λ l. branch_row n (with_lock day b) ∷ l) (none_locked k (n + 1) day.0 bs (inl (omega (arith, e))))
 locked_at k n day b bs xs q false e later =
     ap (λ (c : Bool). cond c (let r : BranchRow = record (branch_row n b) { locked = Some day.0 } in r) (branch_row n b)
-    ∷ map (locked (pos k) day.0) (branch_rows (n + 1) bs)) (other_nr n k (λ f. omega (arith, e, f)))
+    ∷ map (row_locked (pos k) day.0) (branch_rows (n + 1) bs)) (other_nr n k (λ f. omega (arith, e, f)))
     ∙ ap (λ l. branch_row n b ∷ l) (later (omega (arith, e)))
 
 pub branch_locked : (k n : ℕ) (day : Day) (name : List ℕ) (bs : List Branch) → k ≡ n + name_place bs name
-    → map (locked (pos k) day.0) (branch_rows n bs) ≡ branch_rows n (changed (with_lock day) name bs)
+    → map (row_locked (pos k) day.0) (branch_rows n bs) ≡ branch_rows n (changed (with_lock day) name bs)
 branch_locked k n day name [] e = refl
 branch_locked k n day name (b ∷ bs) e =
     locked_at k n day b bs (changed (with_lock day) name bs) (name_place bs name) (bytes_eq b.name name) e

@@ -21,7 +21,8 @@ use Rattle.book_core.specs.declared.entry.Entry.{Entry}
 use Rattle.book_core.specs.declared.leg.Leg.{Leg}
 use Rattle.book_core.specs.GoodBook.{AreApart, IsFit}
 use Rattle.journal_format.specs.declared.posting.Posting.{Posting}
-use Rattle.journal_balance.specs.Legs.{posting_legs, placed, claims_among, entry_of, unless, balancing_fault, legs_of}
+use Rattle.journal_balance.specs.Legs.{posting_legs, placed, claims_among, entry_of, entry_unless, balancing_fault}
+use Rattle.journal_balance.specs.Legs.{balanced_entry}
 use Rattle.treasury_state.specs.declared.record.Record.{Record}
 use Rattle.treasury_state.specs.declared.transfer.Part.{Part}
 use Rattle.treasury_state.specs.declared.transfer.Transfer.{Transfer}
@@ -201,7 +202,7 @@ legs_ascend_strictly (x ∷ xs) h k = (both xs h.0 k.0, legs_ascend_strictly xs 
     both [] a b = tt
     both (y ∷ ys) a b = (let le = a.0 in let ne = b.0 in omega (arith, le, ne), both ys a.1 b.1)
 
-entry_is : (e f : Entry) (o : Option Cause) → unless e o ≡ Ok f → f ≡ e
+entry_is : (e f : Entry) (o : Option Cause) → entry_unless e o ≡ Ok f → f ≡ e
 entry_is e f None h = cc
 entry_is e f (Some c) h = absurd cc
 
@@ -228,7 +229,7 @@ abbrev AreInPlace : Record → Type 0
 AreInPlace r = IsAscending (λ (x y : Placed). x.leg < y.leg) r.entry.claims
 
 in_place : (styles : List Style) (r : Record) → IsGoodRecord styles r → IsFit r.entry → AreInPlace r
-unfolding legs_of
+unfolding balanced_entry
 in_place styles r good fit =
     let is = entry_is (entry_of styles r.txn) r.entry (balancing_fault styles r.txn) good.legs in
     legs_ascend_strictly r.entry.claims (subst (λ (e : Entry). IsAscending IsNoEarlier e.claims) (sym is)

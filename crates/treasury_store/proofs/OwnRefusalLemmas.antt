@@ -40,7 +40,7 @@ use Rattle.treasury_core.specs.declared.command.Receive.{Receive}
 use Rattle.treasury_core.specs.declared.command.Close.{Close}
 use Rattle.treasury_core.specs.declared.command.Command.{Command}
 use Rattle.treasury_core.specs.declared.command.Command.TheVariants as cmd
-use Rattle.treasury_core.specs.Choice.{is_selected, target_in, listed, list_text, choice_comments, list_limit}
+use Rattle.treasury_core.specs.Choice.{is_selected, target_in, listed_names, list_text, choice_comments, list_limit}
 use Rattle.treasury_core.specs.Choice.{holds_transit, choice_refusal}
 use Rattle.treasury_core.specs.Closing.{closing_record, closing_answer, closing_in}
 use Rattle.treasury_core.specs.Step.{unless, reply, commodity_reply, fault_on, unbalanced, barred, refused_in}
@@ -48,7 +48,7 @@ use Rattle.treasury_core.specs.Step.{file_refusal, dispatch_refusal, receipt_ref
 use Rattle.treasury_core.specs.Step.{is_received_so, entering_refusal, close_refusal, closed_reply, is_lock, goes_back}
 use Rattle.treasury_core.specs.Step.{held_reply, key_of, qty_of, has_key, is_too_much, has_bad_key, has_nothing_left}
 use Rattle.treasury_store.specs.Store.{AnswersState}
-use Rattle.treasury_store.specs.Treasury.{FailsBy, RepliesOrFails, is_by_rules, IsListed}
+use Rattle.treasury_store.specs.Treasury.{FailsBy, RepliesOrFails, is_by_rules, IsListedRefusal}
 
 abbrev IsOwn : Refusal → Type 0
 IsOwn e = is_by_rules e ≡ true
@@ -212,12 +212,12 @@ own_entering held day (Err e) own = own
 
 own_choice : (c : Choice) → IsOwnFault (choice_refusal c)
 own_choice c =
-    own_if_Some (not (list_all is_account_text (listed c.accounts))) (Plain BadAccount) _ refl
+    own_if_Some (not (list_all is_account_text (listed_names c.accounts))) (Plain BadAccount) _ refl
     (own_if_Some (not (is_account_text (target_in c.into))) (Plain BadAccount) _ refl
-    (own_if_Some (list_any holds_transit (listed c.accounts)) (Plain ReservedAccount) _ refl
+    (own_if_Some (list_any holds_transit (listed_names c.accounts)) (Plain ReservedAccount) _ refl
     (own_if_Some (is_reserved (target_in c.into)) (Plain ReservedAccount) _ refl
     (own_if_Some (is_selected c.accounts (target_in c.into)) (Plain BadAccount) _ refl
-    (own_if_Some (nat_lt list_limit (length (list_text (listed c.accounts)))) (Plain Limit) _ refl none_own)))))
+    (own_if_Some (nat_lt list_limit (length (list_text (listed_names c.accounts)))) (Plain Limit) _ refl none_own)))))
 
 own_close : (lock : Option Day) (held : List Record) (x : Close) (o : Option Txn)
     → IsOwnFault (close_refusal lock held x o)
@@ -280,7 +280,8 @@ unfolding IsOwnReply
 own_err r own = own
 
 -- what may be replied to a command is refused by the rules, or by 41
-pub listed_reply : (f : Federation) (c : Command) (r : Result Answer Refusal) → RepliesOrFails f c r → IfErr r IsListed
+pub listed_reply : (f : Federation) (c : Command) (r : Result Answer Refusal) → RepliesOrFails f c r
+    → IfErr r IsListedRefusal
 listed_reply f c (Ok answer) replies = tt
 listed_reply f c (Err e) (inl (inl step)) =
     inl (subst (λ (r : Result Answer Refusal). IfErr r (λ x. IsTrue (is_by_rules x))) (sym step)
@@ -291,7 +292,7 @@ listed_reply f c (Err e) (inr failed) = let k : e ≡ Plain Failed = cc in inr (
 
 -- and so is a command on a state that could not be had
 pub listed_unheld : {T : Type 0} (cause : Cause) (failed : Bool) → AnswersState {T = T} (Err cause) failed
-    → IsListed (Plain cause)
+    → IsListedRefusal (Plain cause)
 listed_unheld cause failed (inl (inl memory)) =
     inl (subst (λ (x : Cause). IsTrue (is_by_rules (Plain x))) (sym memory.0) refl)
 listed_unheld cause failed (inl (inr failure)) = inr (inl (ap Plain failure.0))

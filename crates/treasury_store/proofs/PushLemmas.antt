@@ -13,7 +13,8 @@ use Rattle.treasury_state.specs.declared.delta.Addition.{Addition}
 use Rattle.treasury_state.specs.Rows.{leg_row, claim_row}
 use Rattle.treasury_tables.specs.declared.change.Change.{Change}
 use Rattle.treasury_tables.specs.declared.change.Change.TheVariants as change
-use Rattle.treasury_store.specs.Changes.{Counts, changes_by, counted, changes_from, counted_all, CanWrite, CanWriteFrom}
+use Rattle.treasury_store.specs.Changes.{Counts, changes_by, counts_after, changes_from, counts_after_all, CanWrite}
+use Rattle.treasury_store.specs.Changes.{CanWriteFrom}
 use Rattle.treasury_store.proofs.ListLemmas.{past_end}
 
 -- one more in front of the rest
@@ -84,14 +85,15 @@ if_gone p n changes xs h = sym (append-nil changes) ∙ ap (λ (t : Bool). chang
 -- ---- the changes by additions, one after another
 module _ (S : List Style) (N : List (List ℕ)) (n m : Counts) (xs : List Addition) (i : ℕ) (x : Addition)
     (h : i < length xs) (e : x ≡ get_or xs i x) where
-  pub can_next : CanWriteFrom S N n (drop i xs) → CanWrite S N n x × CanWriteFrom S N (counted N n x) (drop (i + 1) xs)
+  pub can_next : CanWriteFrom S N n (drop i xs) → CanWrite S N n x
+      × CanWriteFrom S N (counts_after N n x) (drop (i + 1) xs)
   can_next fit = let w : CanWriteFrom S N n (x ∷ drop (i + 1) xs) =
       subst (CanWriteFrom S N n) (drop_at xs i x h e) fit in (w.0, w.1)
 
-  pub fit_next : m ≡ counted N n x → CanWriteFrom S N n (drop i xs) → CanWriteFrom S N m (drop (i + 1) xs)
+  pub fit_next : m ≡ counts_after N n x → CanWriteFrom S N n (drop i xs) → CanWriteFrom S N m (drop (i + 1) xs)
   fit_next is fit = subst (λ (k : Counts). CanWriteFrom S N k (drop (i + 1) xs)) (sym is) (can_next fit).1
 
-  pub changes_next : (changes new all : List Change) → m ≡ counted N n x → new ≡ changes ++ changes_by S N n x
+  pub changes_next : (changes new all : List Change) → m ≡ counts_after N n x → new ≡ changes ++ changes_by S N n x
       → changes ++ changes_from S N n (drop i xs) ≡ all → new ++ changes_from S N m (drop (i + 1) xs) ≡ all
   changes_next changes new all is put so_far =
       ap (λ (l : List Change). l ++ changes_from S N m (drop (i + 1) xs)) put
@@ -99,10 +101,10 @@ module _ (S : List Style) (N : List (List ℕ)) (n m : Counts) (xs : List Additi
       ∙ (ap (λ (k : Counts). changes ++ (changes_by S N n x ++ changes_from S N k (drop (i + 1) xs))) is ∙
       (ap (λ (l : List Addition). changes ++ changes_from S N n l) (sym (drop_at xs i x h e)) ∙ so_far)))
 
-  pub counts_next : (all : Counts) → m ≡ counted N n x → counted_all N n (drop i xs) ≡ all
-      → counted_all N m (drop (i + 1) xs) ≡ all
-  counts_next all is so_far = ap (λ (k : Counts). counted_all N k (drop (i + 1) xs)) is ∙
-      (ap (counted_all N n) (sym (drop_at xs i x h e)) ∙ so_far)
+  pub counts_next : (all : Counts) → m ≡ counts_after N n x → counts_after_all N n (drop i xs) ≡ all
+      → counts_after_all N m (drop (i + 1) xs) ≡ all
+  counts_next all is so_far = ap (λ (k : Counts). counts_after_all N k (drop (i + 1) xs)) is ∙
+      (ap (counts_after_all N n) (sym (drop_at xs i x h e)) ∙ so_far)
 
 pub changes_end : (S : List Style) (N : List (List ℕ)) (n : Counts) (xs : List Addition) (i : ℕ)
     (changes all : List Change) → length xs ≤ i → changes ++ changes_from S N n (drop i xs) ≡ all → changes ≡ all
@@ -111,5 +113,5 @@ changes_end S N n xs i changes all h so_far =
     (ap (λ (l : List Addition). changes ++ changes_from S N n l) (sym (past_end xs i h)) ∙ so_far)
 
 pub counts_end : (N : List (List ℕ)) (n all : Counts) (xs : List Addition) (i : ℕ) → length xs ≤ i
-    → counted_all N n (drop i xs) ≡ all → n ≡ all
-counts_end N n all xs i h so_far = ap (counted_all N n) (sym (past_end xs i h)) ∙ so_far
+    → counts_after_all N n (drop i xs) ≡ all → n ≡ all
+counts_end N n all xs i h so_far = ap (counts_after_all N n) (sym (past_end xs i h)) ∙ so_far

@@ -16,7 +16,7 @@ use Rattle.treasury_tables.specs.Kept.{IsFaithful}
 use Rattle.treasury_tables.specs.declared.change.Change.{Change}
 use Rattle.treasury_tables.specs.Rows.{Tables, HoldsTables, HoldsEither, written}
 use Rattle.treasury_tables.specs.Creating.{has_receipt}
-use Rattle.treasury_tables.specs.Opening.{AreOursAlone, IsFirst, IsFirstNumbered}
+use Rattle.treasury_tables.specs.Opening.{AreOursAlone, IsFirstVersion, IsFirstNumbered}
 use Rattle.treasury_tables.specs.Upgrading.{Upgrades}
 use Rattle.treasury_tables.proofs.SameLemmas.{Same, holds_same}
 use Rattle.treasury_tables.proofs.OpenLemmas.{not_first, ours_second, second_more}
@@ -131,7 +131,7 @@ empty_good = record {
 pub opened_holds : {S : Type 0} (g : Ghosts S) (old new : Held S)
     → (IsFaithful g new → IsFirstNumbered (state g old).now
     → Upgrades (state g old).now (state g new).now × ((state g new).committed ≡ (state g new).now))
-    → (IsFaithful g new → AreOursAlone (state g old).now.schema → (IsFirst (state g old).now → ⊥)
+    → (IsFaithful g new → AreOursAlone (state g old).now.schema → (IsFirstVersion (state g old).now → ⊥)
     → ((state g new).now ≡ (state g old).now) × ((state g new).committed ≡ (state g old).committed))
     → (state g old).committed ≡ (state g old).now → (t : Tables) → HoldsEither (state g old).now t
     → TablesAreWhileOpen g new t

@@ -14,10 +14,11 @@ use Rattle.treasury_state.specs.declared.delta.Addition.TheVariants as add
 use Rattle.treasury_state.specs.Federation.{Branch, Federation, entries, name_place, names_of}
 use Rattle.treasury_state.specs.Good.{IsGoodRecord, IsGoodBranch, IsGoodState}
 use Rattle.treasury_state.specs.Joined.{new_branch, with_records, with_lock, changed, joined_one, joined}
-use Rattle.treasury_state.specs.Room.{HasRoom, IsRoomy}
+use Rattle.treasury_state.specs.Room.{FitsLedger, IsRoomy}
 use Rattle.treasury_state.proofs.BackLemmas.{room_fit, room_within, room_back, good_room}
 use Rattle.treasury_store.specs.Numbers.{Numbering, records_each, numbers_of}
-use Rattle.treasury_store.specs.Changes.{Counts, place_in, styles_with, names_with, counts_of, IsWritable, CanWrite}
+use Rattle.treasury_store.specs.Changes.{Counts, place_in, styles_with, names_with, counts_of_numbering, IsWritable}
+use Rattle.treasury_store.specs.Changes.{CanWrite}
 use Rattle.treasury_store.specs.Changes.{CanWriteFrom}
 use Rattle.treasury_store.proofs.AdditionLemmas.{styles_joined, names_joined, names_grown, place_same, count_step}
 
@@ -79,7 +80,7 @@ record_fits : (styles : List Style) (f : Federation) (name : List ℕ) (r : Reco
     → IsWritable styles (get_or (records_each f.branches) (name_place f.branches name) 0) r
 record_fits styles f name r low room printed =
     let g = with_records (r ∷ []) in
-    let a = the_changed HasRoom g name f.branches low room.branches in
+    let a = the_changed FitsLedger g name f.branches low room.branches in
     let b = the_changed (ArePrinted styles) g name f.branches low printed in
     let good = all_last (IsGoodRecord styles) b.branch.records r b.holds in
     let within = room_within a.branch r a.holds in
@@ -96,7 +97,8 @@ record_fits styles f name r low room printed =
 
 one_fits : (styles : List Style) (N more : List (List ℕ)) (f : Federation) (x : Addition)
     → N ≡ names_of f.branches ++ more → IsRoomy f → IsRoomy (joined_one f x)
-    → AllByRecursion (ArePrinted styles) (joined_one f x).branches → CanWrite styles N (counts_of (numbers_of f)) x
+    → AllByRecursion (ArePrinted styles) (joined_one f x).branches
+    → CanWrite styles N (counts_of_numbering (numbers_of f)) x
 one_fits styles N more f (add.Commodity style) e was room printed = let few = was.styles.few in omega (arith, few)
 one_fits styles N more f (add.Branch name) e was room printed = tt
 one_fits styles N more f (add.Record name r) e was room printed =
@@ -112,7 +114,7 @@ one_fits styles N more f (add.Locked name day) e was room printed = tt
 all_fit : (styles : List Style) (N : List (List ℕ)) (xs : List Addition) (f : Federation)
     → N ≡ names_of (joined f xs).branches → IsRoomy (joined f xs)
     → AllByRecursion (ArePrinted styles) (joined f xs).branches
-    → CanWriteFrom styles N (counts_of (numbers_of f)) xs
+    → CanWriteFrom styles N (counts_of_numbering (numbers_of f)) xs
 all_fit styles N [] f e room printed = tt
 all_fit styles N (x ∷ xs) f e room printed =
     let w = names_grown (x ∷ xs) f N e in
@@ -126,7 +128,7 @@ all_fit styles N (x ∷ xs) f e room printed =
 -- what a good joined state says of the additions
 pub record AreWritable (n : Numbering) (xs : List Addition) : Type 0 where
   pub styles : AreStyles (styles_with n.styles xs)
-  pub fit : CanWriteFrom (styles_with n.styles xs) (names_with n.names xs) (counts_of n) xs
+  pub fit : CanWriteFrom (styles_with n.styles xs) (names_with n.names xs) (counts_of_numbering n) xs
 
 pub additions_fit : (f : Federation) (xs : List Addition) → IsGoodState (joined f xs) → AreWritable (numbers_of f) xs
 additions_fit f xs good =
@@ -136,7 +138,7 @@ additions_fit f xs good =
     record {
       styles = subst AreStyles (sym (styles_joined xs f)) good.styles;
       fit = subst (λ (styles : List Style).
-          CanWriteFrom styles (names_with (names_of f.branches) xs) (counts_of (numbers_of f)) xs)
+          CanWriteFrom styles (names_with (names_of f.branches) xs) (counts_of_numbering (numbers_of f)) xs)
           (sym (styles_joined xs f))
           (all_fit last.styles (names_with (names_of f.branches) xs) xs f (names_joined xs f) (good_room last good)
           printed);

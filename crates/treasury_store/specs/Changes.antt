@@ -24,12 +24,12 @@ pub record Counts : Type 0 where
   pub records : List ℕ
 
 -- branches of these names
-abbrev pub named : List (List ℕ) → List Branch
-named names = map new_branch names
+abbrev pub branches_named : List (List ℕ) → List Branch
+branches_named names = map new_branch names
 
 -- the place of a name, from 0; how many there are where none is it
 abbrev pub place_in : List (List ℕ) → List ℕ → ℕ
-place_in names name = name_place (named names) name
+place_in names name = name_place (branches_named names) name
 
 -- the rows of the n-th record of the b-th branch
 abbrev pub record_changes : List Style → ℕ → ℕ → Record → List Change
@@ -49,59 +49,60 @@ changes_by styles names n (add.Branch name) = change.Branch (branch_row (length 
 changes_by styles names n (add.Record name r) =
     if nat_lt (place_in names name) (length n.records)
     then record_changes styles (place_in names name) (suc (slice_index n.records (place_in names name))) r else []
-changes_by styles names n (add.Dispatched t) = change.Transfer (transfer_row (named names) t) ∷ []
+changes_by styles names n (add.Dispatched t) = change.Transfer (transfer_row (branches_named names) t) ∷ []
 changes_by styles names n (add.Received id p) = receipt_change (is_all p.key) id p ∷ []
 changes_by styles names n (add.Locked name day) = change.Lock (pos (place_in names name)) day.0 ∷ []
 
 -- the numbers after it
-abbrev pub counted : List (List ℕ) → Counts → Addition → Counts
-counted names n (add.Commodity style) = record n { units = suc n.units }
-counted names n (add.Branch name) = record n { records = n.records ++ 0 ∷ [] }
-counted names n (add.Record name r) =
+abbrev pub counts_after : List (List ℕ) → Counts → Addition → Counts
+counts_after names n (add.Commodity style) = record n { units = suc n.units }
+counts_after names n (add.Branch name) = record n { records = n.records ++ 0 ∷ [] }
+counts_after names n (add.Record name r) =
     record n { records = slice_set n.records (place_in names name) (suc (slice_index n.records (place_in names name))) }
-counted names n (add.Dispatched t) = n
-counted names n (add.Received id p) = n
-counted names n (add.Locked name day) = n
+counts_after names n (add.Dispatched t) = n
+counts_after names n (add.Received id p) = n
+counts_after names n (add.Locked name day) = n
 
 -- the changes by a list of additions, in order, and the numbers after them
 abbrev pub changes_from : List Style → List (List ℕ) → Counts → List Addition → List Change
 changes_from styles names n [] = []
-changes_from styles names n (x ∷ xs) = changes_by styles names n x ++ changes_from styles names (counted names n x) xs
+changes_from styles names n (x ∷ xs) =
+    changes_by styles names n x ++ changes_from styles names (counts_after names n x) xs
 
-abbrev pub counted_all : List (List ℕ) → Counts → List Addition → Counts
-counted_all names n [] = n
-counted_all names n (x ∷ xs) = counted_all names (counted names n x) xs
+abbrev pub counts_after_all : List (List ℕ) → Counts → List Addition → Counts
+counts_after_all names n [] = n
+counts_after_all names n (x ∷ xs) = counts_after_all names (counts_after names n x) xs
 
 -- the styles and the names with those that are added
-abbrev pub style_with : List Style → Addition → List Style
-style_with styles (add.Commodity style) = styles ++ style ∷ []
-style_with styles _ = styles
+abbrev pub styles_with_one : List Style → Addition → List Style
+styles_with_one styles (add.Commodity style) = styles ++ style ∷ []
+styles_with_one styles _ = styles
 
-abbrev pub name_with : List (List ℕ) → Addition → List (List ℕ)
-name_with names (add.Branch name) = names ++ name ∷ []
-name_with names _ = names
+abbrev pub names_with_one : List (List ℕ) → Addition → List (List ℕ)
+names_with_one names (add.Branch name) = names ++ name ∷ []
+names_with_one names _ = names
 
 abbrev pub styles_with : List Style → List Addition → List Style
 styles_with styles [] = styles
-styles_with styles (x ∷ xs) = styles_with (style_with styles x) xs
+styles_with styles (x ∷ xs) = styles_with (styles_with_one styles x) xs
 
 abbrev pub names_with : List (List ℕ) → List Addition → List (List ℕ)
 names_with names [] = names
-names_with names (x ∷ xs) = names_with (name_with names x) xs
+names_with names (x ∷ xs) = names_with (names_with_one names x) xs
 
 -- the counts from which new rows are numbered
-abbrev pub counts_of : Numbering → Counts
-counts_of n = record { units = length n.styles; records = n.records }
+abbrev pub counts_of_numbering : Numbering → Counts
+counts_of_numbering n = record { units = length n.styles; records = n.records }
 
 -- the changes by which additions are written, and the numbers after them
 abbrev pub changes_of : Numbering → List Addition → List Change
-changes_of n xs = changes_from (styles_with n.styles xs) (names_with n.names xs) (counts_of n) xs
+changes_of n xs = changes_from (styles_with n.styles xs) (names_with n.names xs) (counts_of_numbering n) xs
 
 abbrev pub numbers_with : Numbering → List Addition → Numbering
 numbers_with n xs = record {
   styles = styles_with n.styles xs;
   names = names_with n.names xs;
-  records = (counted_all (names_with n.names xs) (counts_of n) xs).records;
+  records = (counts_after_all (names_with n.names xs) (counts_of_numbering n) xs).records;
 }
 
 -- ---- what can be written
@@ -122,4 +123,4 @@ CanWrite styles names n (add.Locked name day) = ⊤
 
 abbrev pub CanWriteFrom : List Style → List (List ℕ) → Counts → List Addition → Type 0
 CanWriteFrom styles names n [] = ⊤
-CanWriteFrom styles names n (x ∷ xs) = CanWrite styles names n x × CanWriteFrom styles names (counted names n x) xs
+CanWriteFrom styles names n (x ∷ xs) = CanWrite styles names n x × CanWriteFrom styles names (counts_after names n x) xs

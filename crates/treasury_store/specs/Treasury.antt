@@ -94,14 +94,14 @@ is_by_rules (Plain WriteFault) = false
 is_by_rules _ = true
 
 -- why a command is refused on a treasury on which no call has failed: by the rules or want of memory, by 41, or by 43
-abbrev pub IsListed : Refusal → Type 0
-IsListed e = IsTrue (is_by_rules e) ⊎ ((e ≡ Plain Failed) ⊎ (e ≡ Plain Damaged))
+abbrev pub IsListedRefusal : Refusal → Type 0
+IsListedRefusal e = IsTrue (is_by_rules e) ⊎ ((e ≡ Plain Failed) ⊎ (e ≡ Plain Damaged))
 
 -- What is said of a reply whatever the disk returned, and whatever the tables are: a call has failed just where it is
 -- 41; a refusal is one of those that are listed; and while memory holds a state, the reply is by that state.
 pub record RepliesInAnyCase {S : Type 0} (old new : Treasury S) (c : Command) (r : Result Answer Refusal) : Type 0 where
   pub fails : FailsBy r new.store.failed
-  pub listed : IfErr r IsListed
+  pub listed : IfErr r IsListedRefusal
   pub held : IfSome old.held (λ s. RepliesOrFails s c r)
 
 -- What a command does to a connection: one that was open is open after an answer, and after each refusal but 41; no

@@ -15,9 +15,10 @@ ghost use Rattle.treasury_state.specs.Rows.{truth, kind_number, unit_row, branch
 ghost use Rattle.treasury_state.specs.Rows.{claim_row, transfer_row, part_row};
 ghost use Rattle.treasury_state.specs.Transfer.{is_all};
 ghost use Rattle.treasury_tables.specs.declared.change.Change.TheVariants.{Leg as LegChange, Claim as ClaimChange};
-ghost use Rattle.treasury_store.specs.Changes.{named, record_changes, receipt_change, changes_by, counted};
-ghost use Rattle.treasury_store.specs.Changes.{changes_from, counted_all, changes_of, numbers_with, styles_with};
-ghost use Rattle.treasury_store.specs.Changes.{names_with, counts_of, IsWritable, CanWrite, CanWriteFrom};
+ghost use Rattle.treasury_store.specs.Changes.{branches_named, record_changes, receipt_change, changes_by};
+ghost use Rattle.treasury_store.specs.Changes.{counts_after};
+ghost use Rattle.treasury_store.specs.Changes.{changes_from, counts_after_all, changes_of, numbers_with, styles_with};
+ghost use Rattle.treasury_store.specs.Changes.{names_with, counts_of_numbering, IsWritable, CanWrite, CanWriteFrom};
 
 use crate::numbers::{Numbers, more_names, more_styles, place_of};
 use book_core::{ClaimKind, Leg, Placed};
@@ -287,7 +288,7 @@ fn day_of(receipt: &Option<Receipt>) -> Option<i64>
 
 /// The row of a transfer between branches of these names.
 fn transfer_row(names: &[Text], transfer: &Transfer) -> Result<TransferRow, Cause>
-    ensures equal { IfOk result (λ row. row ≡ transfer_row (named names.now) transfer.now) }
+    ensures equal { IfOk result (λ row. row ≡ transfer_row (branches_named names.now) transfer.now) }
     ensures memory { IsOkUnless result Cause.OutOfMemory }
 {
     let id = transfer.id.copy()?;
@@ -385,7 +386,7 @@ fn add_changes(
 ) -> Result<(), Cause>
     requires { CanWrite styles.now names.now counts.old addition.now }
     ensures ok { OnOk result (changes.new ≡ changes.old ++ changes_by styles.now names.now counts.old addition.now) }
-    ensures counted { OnOk result (counts.new ≡ counted names.now counts.old addition.now) }
+    ensures counted { OnOk result (counts.new ≡ counts_after names.now counts.old addition.now) }
     ensures memory { IsOkUnless result Cause.OutOfMemory }
 {
     match addition {
@@ -431,7 +432,7 @@ fn all_changes(
 ) -> Result<Items<Change>, Cause>
     requires { CanWriteFrom styles.now names.now counts.old additions.now }
     ensures changes { IfOk result (λ list. list ≡ changes_from styles.now names.now counts.old additions.now) }
-    ensures counted { OnOk result (counts.new ≡ counted_all names.now counts.old additions.now) }
+    ensures counted { OnOk result (counts.new ≡ counts_after_all names.now counts.old additions.now) }
     ensures memory { IsOkUnless result Cause.OutOfMemory }
 {
     let mut changes = Items::empty(alloc);
@@ -449,7 +450,7 @@ pub(crate) fn changes_of(
 ) -> Result<(Items<Change>, Numbers), Cause>
     requires styles { AreStyles (styles_with numbers.now.styles additions.now) }
     requires fit { CanWriteFrom (styles_with numbers.now.styles additions.now)
-        (names_with numbers.now.names additions.now) (counts_of numbers.now) additions.now }
+        (names_with numbers.now.names additions.now) (counts_of_numbering numbers.now) additions.now }
     ensures changes { IfOk result (λ r. r.0 ≡ changes_of numbers.now additions.now) }
     ensures numbers { IfOk result (λ r. r.1 ≡ numbers_with numbers.now additions.now) }
     ensures memory { IsOkUnless result Cause.OutOfMemory }

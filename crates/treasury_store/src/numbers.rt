@@ -6,7 +6,7 @@ ghost use Rattle.std.specs.Str.{bytes_eq};
 ghost use Rattle.money_core.specs.Style.{AreStyles};
 ghost use Rattle.treasury_state.specs.Federation.{names_of};
 ghost use Rattle.treasury_state.specs.Seen.{branches_of};
-ghost use Rattle.treasury_store.specs.Changes.{place_in, style_with, name_with, styles_with, names_with};
+ghost use Rattle.treasury_store.specs.Changes.{place_in, styles_with_one, names_with_one, styles_with, names_with};
 ghost use Rattle.treasury_store.specs.Numbers.{records_each, numbers_of};
 
 use book_core::Ledger;
@@ -96,8 +96,8 @@ fn copied(alloc: Global, styles: &Styles) -> Result<Styles, Cause>
 
 /// A new commodity, if it is one.
 fn add_style(styles: &mut Styles, addition: &Addition) -> Result<(), Cause>
-    requires { AreStyles (style_with styles.old addition.now) }
-    ensures ok { OnOk result (styles.new ≡ style_with styles.old addition.now) }
+    requires { AreStyles (styles_with_one styles.old addition.now) }
+    ensures ok { OnOk result (styles.new ≡ styles_with_one styles.old addition.now) }
     ensures memory { IsOkUnless result Cause.OutOfMemory }
 {
     match addition {
@@ -108,7 +108,7 @@ fn add_style(styles: &mut Styles, addition: &Addition) -> Result<(), Cause>
 
 /// A new name, if it is that of a branch.
 fn add_name(names: &mut Items<Text>, addition: &Addition) -> Result<(), Cause>
-    ensures ok { OnOk result (names.new ≡ name_with names.old addition.now) }
+    ensures ok { OnOk result (names.new ≡ names_with_one names.old addition.now) }
     ensures memory { IsOkUnless result Cause.OutOfMemory }
 {
     match addition {

@@ -14,7 +14,7 @@ ghost use Rattle.treasury_tables.specs.Rows.{Tables, HoldsTables, HoldsEither, S
 ghost use Rattle.treasury_tables.specs.Kept.{ChangesNothing, KeepsTables, StaysAsIs, IsFaithful};
 ghost use Rattle.treasury_tables.specs.Tables.{no_schema, store_schema};
 ghost use Rattle.treasury_tables.specs.Creating.{has_one, has_all, has_counter, Beside, SurvivesMaking};
-ghost use Rattle.treasury_tables.specs.Opening.{AreOursAlone, IsFirst, IsFirstNumbered, IsSecond};
+ghost use Rattle.treasury_tables.specs.Opening.{AreOursAlone, IsFirstVersion, IsFirstNumbered, IsSecond};
 ghost use Rattle.treasury_tables.specs.Upgrading.{Upgrades, KeepsOurs};
 ghost use Rattle.treasury_store.specs.Store.{empty_state, TablesAreWhileOpen, Knows, IsOf, Joins, AnswersStore};
 ghost use Rattle.treasury_store.specs.Store.{AnswersState};
@@ -108,7 +108,7 @@ impl<S: Alter> Store<S> {
     pub fn open(alloc: Global, mut conn: Connection<S>) -> Result<Self, Refused<S>>
         requires { conn.in_transaction ≡ false }
         ensures there { IfOk result (λ s. IsFaithful S.Store s.conn → AreOursAlone (state S.Store conn).now.schema
-            → IsFirst (state S.Store conn).now ⊎ IsSecond (state S.Store conn).now) }
+            → IsFirstVersion (state S.Store conn).now ⊎ IsSecond (state S.Store conn).now) }
         ensures tables { IfOk result (λ s. IsTrue (has_all (state S.Store conn).now.schema)) }
         ensures still_open { IfOk result
             (λ s. IsFaithful S.Store s.conn → IsTrue (state S.Store s.conn).is_open) }
@@ -120,7 +120,7 @@ impl<S: Alter> Store<S> {
             → Upgrades (state S.Store conn).now (state S.Store s.conn).now
             × ((state S.Store s.conn).committed ≡ (state S.Store s.conn).now)) }
         ensures same { IfOk result (λ s. IsFaithful S.Store s.conn → AreOursAlone (state S.Store conn).now.schema
-            → (IsFirst (state S.Store conn).now → ⊥)
+            → (IsFirstVersion (state S.Store conn).now → ⊥)
             → ((state S.Store s.conn).now ≡ (state S.Store conn).now)
             × ((state S.Store s.conn).committed ≡ (state S.Store conn).committed)) }
         ensures fresh { IfOk result (λ s. (s.numbers ≡ None) × (s.failed ≡ false)) }
@@ -131,7 +131,7 @@ impl<S: Alter> Store<S> {
             (r.cause ≡ Cause.Damaged) ⊎ ((r.cause ≡ Cause.OutOfMemory) ⊎ (r.cause ≡ Cause.Store))) }
         ensures damaged { IfErr result (λ r. r.cause ≡ Cause.Damaged → IsFaithful S.Store r.conn
             → (AreOursAlone (state S.Store conn).now.schema
-            → IsFirst (state S.Store conn).now ⊎ IsSecond (state S.Store conn).now → ⊥)
+            → IsFirstVersion (state S.Store conn).now ⊎ IsSecond (state S.Store conn).now → ⊥)
             × ((state S.Store r.conn).now ≡ (state S.Store conn).now)
             × ((state S.Store r.conn).committed ≡ (state S.Store conn).committed)) }
         // After 40, and while the connection is open after 41, its tables are as they were.

@@ -21,7 +21,7 @@ use Rattle.sqlite_tied.specs.Compute.{everything}
 use Rattle.std.proofs.Common.{slice_get}
 use Rattle.sqlite.proofs.Callers.{IsPlain, command_of}
 use Rattle.sqlite.specs.Source.TheVariants.{Values}
-use Rattle.treasury_tables.specs.Tables.{format}
+use Rattle.treasury_tables.specs.Tables.{format_table}
 use Rattle.treasury_tables.proofs.Texts.{add_format_text, format_terms, create_format_text, create_unit_text}
 use Rattle.treasury_tables.proofs.Texts.{create_branch_text, create_entry_text, create_leg_text, create_claim_text}
 use Rattle.treasury_tables.proofs.Texts.{create_transfer_text, create_receipt_text}
@@ -165,7 +165,7 @@ creates_receipt s = go (is_attached s (codes "receipt"))
         (record { command = refl; whole = refl; returns = refl; untimed = refl })
 
 pub adds_format : (s : Schema) (at n : ℕ) → table_named s (codes "format") ≡ Some at
-    → slice_get s.tables at ≡ Some (record format { tree = n })
+    → slice_get s.tables at ≡ Some (record format_table { tree = n })
     → (command_of (understood s add_format_text) ≡ Insert at (Values format_terms 2))
     × IsPlain (understood s add_format_text)
 unfolding understood everything

@@ -23,8 +23,8 @@ use Rattle.sqlite.specs.Held.{Held, state}
 use Rattle.sqlite.proofs.StateLemmas.{survives_then}
 use Rattle.money_core.proofs.ListLemmas.{all_front, all_behind}
 use Rattle.treasury_tables.specs.Kept.{IsFaithful}
-use Rattle.treasury_tables.specs.Tables.{format, state_tables, made_all, new_tables, no_schema, store_schema}
-use Rattle.treasury_tables.specs.Rows.{HoldsTables, no_rows, format_row, shown_unit, shown_branch, shown_entry}
+use Rattle.treasury_tables.specs.Tables.{format_table, state_tables, made_all, new_tables, no_schema, store_schema}
+use Rattle.treasury_tables.specs.Rows.{HoldsTables, no_rows, values_of_format, shown_unit, shown_branch, shown_entry}
 use Rattle.treasury_tables.specs.Rows.{shown_leg, shown_claim, shown_transfer, shown_part}
 use Rattle.treasury_tables.specs.Creating.{Makes, MakesAll, GivesRow, Beside, is_ours, has_one, has_counter}
 use Rattle.treasury_tables.proofs.CreateLemmas.{kept_twice, stays_uncounted}
@@ -72,17 +72,17 @@ unfolding same_name
 named_format = refl
 
 abbrev here : Schema → Table
-here s = record format { tree = next_tree s }
+here s = record format_table { tree = next_tree s }
 
-news_is : (n : ℕ) (db : Trees) → (edit_of db (record format { tree = n }) [] Chosen 0
-    (value_rows format_row 2 1 format_terms)).news ≡ (Int (next_rowid (db n)) ∷ format_row) ∷ []
+news_is : (n : ℕ) (db : Trees) → (edit_of db (record format_table { tree = n }) [] Chosen 0
+    (value_rows values_of_format 2 1 format_terms)).news ≡ (Int (next_rowid (db n)) ∷ values_of_format) ∷ []
 news_is n db = simp (cast_int, cast_null)
 
-pub gives_row : (s : Schema) (old new : State) (count : ℕ) → old.now.schema ≡ created s format
+pub gives_row : (s : Schema) (old new : State) (count : ℕ) → old.now.schema ≡ created s format_table
     → list_any (λ t. same_name t.name (codes "format")) s.tables ≡ false → old.now.trees (next_tree s) ≡ []
-    → Executes add_format_text format_row old new (Ok count) → GivesRow s old.now new.now
+    → Executes add_format_text values_of_format old new (Ok count) → GivesRow s old.now new.now
 gives_row s old new count has free bare h =
-    let whole = created s format in
+    let whole = created s format_table in
     let at = length s.tables in
     let n = next_tree s in
     let named : table_named whole (codes "format") ≡ Some at =
@@ -90,16 +90,18 @@ gives_row s old new count has free bare h =
     (omega arith) in
     let got : slice_get whole.tables at ≡ Some (here s) = last_got s.tables (here s) in
     let is = adds_format whole at n named got in
-    let a = adds whole format.name n format.columns format.key format.primary format.uniques format.orders
-    add_format_text at format_terms 2 format_row (λ db. Int (next_rowid (db n)) ∷ format_row) is.0 is.1 got
+    let a = adds whole format_table.name n format_table.columns format_table.key format_table.primary
+    format_table.uniques format_table.orders
+    add_format_text at format_terms 2 values_of_format (λ db. Int (next_rowid (db n)) ∷ values_of_format) is.0 is.1 got
     (news_is n) old new count has h in
-    let put : new.now.trees n ≡ put_row (Int (pos 1) ∷ format_row) [] =
-    a.rows ∙ ap (λ rs. put_row (Int (next_rowid rs) ∷ format_row) rs) bare in
-    let only : new.now.trees n ≡ (Int (pos 1) ∷ format_row) ∷ [] = put in
+    let put : new.now.trees n ≡ put_row (Int (pos 1) ∷ values_of_format) [] =
+    a.rows ∙ ap (λ rs. put_row (Int (next_rowid rs) ∷ values_of_format) rs) bare in
+    let only : new.now.trees n ≡ (Int (pos 1) ∷ values_of_format) ∷ [] = put in
     record {
       schema = a.schema_is;
       row = ap (map (λ r. column r 1)) only;
-      numbered = subst (IsShaped shape.Table) (sym put) (IsShaped-put_row (Int (pos 1) ∷ format_row) [] refl (tt, tt));
+      numbered =
+          subst (IsShaped shape.Table) (sym put) (IsShaped-put_row (Int (pos 1) ∷ values_of_format) [] refl (tt, tt));
       others = kept_below (above (λ (t : Table). t.tree) (past_views s) s.tables) n s.tables old.now.trees new.now.trees
           (above_grows (λ i. i.tree) s.indexes _) (low_all (λ (t : Table). t.tree) s.tables (past_views s))
           (all_front _ s.tables _ a.others);
@@ -125,10 +127,10 @@ no_format (t ∷ ts) none = go (is_ours t.name) refl none (no_format ts)
 pub no_format_in : (s : Schema) → has_one s ≡ false → list_any (λ t. same_name t.name (codes "format")) s.tables ≡ false
 no_format_in s none = no_format s.tables none
 
-pub whole_beside : (a b c d : Database) → Makes format a b → GivesRow a.schema b c → MakesAll state_tables c d
+pub whole_beside : (a b c d : Database) → Makes format_table a b → GivesRow a.schema b c → MakesAll state_tables c d
     → Beside a d
 whole_beside a b c d p row q =
-    let f : Table = record format { tree = next_tree a.schema } in
+    let f : Table = record format_table { tree = next_tree a.schema } in
     let all : KeepsRows (a.schema.tables ++ f ∷ []) c.trees d.trees =
     subst (λ s. KeepsRows s.tables c.trees d.trees) row.schema q.others in
     record {
@@ -147,19 +149,19 @@ whole_beside a b c d p row q =
     }
 
 -- in the schema each of our tables has the number with which it is defined
-pub schema_numbers : store_schema.tables ≡ format ∷ state_tables
+pub schema_numbers : store_schema.tables ≡ format_table ∷ state_tables
 schema_numbers = refl
 
 -- in an empty database
 pub holds_none : (a d : Database) → a.schema ≡ no_schema → Beside a d → HoldsTables d no_rows
 holds_none a d none made =
-    let empty : AllByRecursion (λ (t : Table). d.trees t.tree ≡ []) (new_tables state_tables (created no_schema format))
-    =
-    subst (λ s. AllByRecursion (λ (t : Table). d.trees t.tree ≡ []) (new_tables state_tables (created s format))) none
-    made.empty in
+    let empty : AllByRecursion (λ (t : Table). d.trees t.tree ≡ [])
+    (new_tables state_tables (created no_schema format_table)) =
+    subst (λ s. AllByRecursion (λ (t : Table). d.trees t.tree ≡ []) (new_tables state_tables (created s format_table)))
+    none made.empty in
     record {
       shows = record {
-        schema = made.schema ∙ ap (made_all (format ∷ state_tables)) none;
+        schema = made.schema ∙ ap (made_all (format_table ∷ state_tables)) none;
         units = subst (λ rows. IsPermutation [] (map shown_unit rows)) (sym empty.0) (IsPermutation-refl []);
         branches = subst (λ rows. IsPermutation [] (map shown_branch rows)) (sym empty.1.0) (IsPermutation-refl []);
         entries = subst (λ rows. IsPermutation [] (map shown_entry rows)) (sym empty.1.1.0) (IsPermutation-refl []);
@@ -178,8 +180,8 @@ holds_none a d none made =
 -- the tables, the row of `format` and the tables of the state, one after another inside a transaction
 pub made_beside : {S : Type 0} (g : Ghosts S) (old first mid last : Held S) → has_one (state g old).now.schema ≡ false
     → (IsFaithful g first → has_counter (state g old).now.schema ≡ false
-    → Makes format (state g old).now (state g first).now)
-    → (IsFaithful g mid → (s : Schema) → (state g first).now.schema ≡ created s format
+    → Makes format_table (state g old).now (state g first).now)
+    → (IsFaithful g mid → (s : Schema) → (state g first).now.schema ≡ created s format_table
     → list_any (λ t. same_name t.name (codes "format")) s.tables ≡ false
     → (state g first).now.trees (next_tree s) ≡ [] → GivesRow s (state g first).now (state g mid).now)
     → (IsFaithful g last → has_counter (state g mid).now.schema ≡ false
@@ -194,7 +196,7 @@ made_beside g old first mid last free makes gives rest one two clean_last none =
     let row =
     gives clean_mid (state g old).now.schema made.schema (no_format_in (state g old).now.schema free) made.empty in
     whole_beside _ _ _ _ made row (rest clean_last
-    (ap has_counter row.schema ∙ stays_uncounted (state g old).now.schema format refl none))
+    (ap has_counter row.schema ∙ stays_uncounted (state g old).now.schema format_table refl none))
 
 -- and nothing is committed meanwhile
 pub made_in : {S : Type 0} (g : Ghosts S) (old first mid last : Held S)

@@ -2,32 +2,32 @@
 use Rattle.std.proofs.Common.{◌≡◌, List, [], ◌∷◌, Bool, true, false, not, cond, filter, refl, sym, ap, ◌∙◌, true≢false}
 use Rattle.treasury_tables.specs.declared.change.Change.{Change}
 use Rattle.treasury_tables.specs.declared.change.Change.TheVariants as change
-use Rattle.treasury_tables.specs.Rows.{Tables, changed, written}
+use Rattle.treasury_tables.specs.Rows.{Tables, tables_changed, written}
 use Rattle.treasury_tables.specs.Kinds.{is_entry, is_leg, is_claim, is_single}
 
 module _ (p : Change → Bool) (apart : (c d : Change) (t : Tables) → p c ≡ true → p d ≡ false
-    → changed d (changed c t) ≡ changed c (changed d t)) where
+    → tables_changed d (tables_changed c t) ≡ tables_changed c (tables_changed d t)) where
   past : (c : Change) → p c ≡ false → (cs : List Change) (t : Tables)
-      → written (filter p cs) (changed c t) ≡ changed c (written (filter p cs) t)
+      → written (filter p cs) (tables_changed c t) ≡ tables_changed c (written (filter p cs) t)
   past c out [] t = refl
   past c out (d ∷ cs) t = go (p d) refl (past c out cs)
     where
       go : (b : Bool) → p d ≡ b → ((u : Tables)
-          → written (filter p cs) (changed c u) ≡ changed c (written (filter p cs) u))
-          → written (cond b (d ∷ filter p cs) (filter p cs)) (changed c t)
-          ≡ changed c (written (cond b (d ∷ filter p cs) (filter p cs)) t)
-      go true e more = ap (written (filter p cs)) (sym (apart d c t e out)) ∙ more (changed d t)
+          → written (filter p cs) (tables_changed c u) ≡ tables_changed c (written (filter p cs) u))
+          → written (cond b (d ∷ filter p cs) (filter p cs)) (tables_changed c t)
+          ≡ tables_changed c (written (cond b (d ∷ filter p cs) (filter p cs)) t)
+      go true e more = ap (written (filter p cs)) (sym (apart d c t e out)) ∙ more (tables_changed d t)
       go false e more = more t
 
   -- those of the kind first, and then the others
   pub by_kind : (cs : List Change) (t : Tables)
       → written cs t ≡ written (filter (λ c. not (p c)) cs) (written (filter p cs) t)
   by_kind [] t = refl
-  by_kind (c ∷ cs) t = go (p c) refl (by_kind cs (changed c t))
+  by_kind (c ∷ cs) t = go (p c) refl (by_kind cs (tables_changed c t))
     where
-      go : (b : Bool) → p c ≡ b → written cs (changed c t)
-          ≡ written (filter (λ d. not (p d)) cs) (written (filter p cs) (changed c t))
-          → written cs (changed c t)
+      go : (b : Bool) → p c ≡ b → written cs (tables_changed c t)
+          ≡ written (filter (λ d. not (p d)) cs) (written (filter p cs) (tables_changed c t))
+          → written cs (tables_changed c t)
           ≡ written (cond (not b) (c ∷ filter (λ d. not (p d)) cs) (filter (λ d. not (p d)) cs))
           (written (cond b (c ∷ filter p cs) (filter p cs)) t)
       go true e more = more
@@ -49,7 +49,7 @@ filter_other_kind p q apart (c ∷ cs) = go (p c) (q c) refl refl (filter_other_
 
 -- ---- entry
 entry_apart : (c d : Change) (t : Tables) → is_entry c ≡ true → is_entry d ≡ false
-    → changed d (changed c t) ≡ changed c (changed d t)
+    → tables_changed d (tables_changed c t) ≡ tables_changed c (tables_changed d t)
 entry_apart (change.Unit u) d t h k = absurd (true≢false (sym h))
 entry_apart (change.Branch b) d t h k = absurd (true≢false (sym h))
 entry_apart (change.Entry e) (change.Unit u2) t h k = refl
@@ -70,7 +70,7 @@ entry_apart (change.Receipt id day payee) d t h k = absurd (true≢false (sym h)
 
 -- ---- leg
 leg_apart : (c d : Change) (t : Tables) → is_leg c ≡ true → is_leg d ≡ false
-    → changed d (changed c t) ≡ changed c (changed d t)
+    → tables_changed d (tables_changed c t) ≡ tables_changed c (tables_changed d t)
 leg_apart (change.Unit u) d t h k = absurd (true≢false (sym h))
 leg_apart (change.Branch b) d t h k = absurd (true≢false (sym h))
 leg_apart (change.Entry e) d t h k = absurd (true≢false (sym h))
@@ -91,7 +91,7 @@ leg_apart (change.Receipt id day payee) d t h k = absurd (true≢false (sym h))
 
 -- ---- claim
 claim_apart : (c d : Change) (t : Tables) → is_claim c ≡ true → is_claim d ≡ false
-    → changed d (changed c t) ≡ changed c (changed d t)
+    → tables_changed d (tables_changed c t) ≡ tables_changed c (tables_changed d t)
 claim_apart (change.Unit u) d t h k = absurd (true≢false (sym h))
 claim_apart (change.Branch b) d t h k = absurd (true≢false (sym h))
 claim_apart (change.Entry e) d t h k = absurd (true≢false (sym h))

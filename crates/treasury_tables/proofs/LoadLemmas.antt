@@ -21,8 +21,9 @@ use Rattle.sqlite.specs.State.{State, Shown}
 use Rattle.sqlite.specs.Listing.{understood, reads_listing}
 use Rattle.sqlite.proofs.Callers.{IsPlain, command_of, reads_as}
 use Rattle.treasury_tables.specs.Tables.{store_schema, first_schema}
-use Rattle.treasury_tables.specs.Rows.{Tables, unit_row, branch_row, entry_row, leg_row, claim_row, transfer_row}
-use Rattle.treasury_tables.specs.Rows.{part_row}
+use Rattle.treasury_tables.specs.Rows.{Tables, values_of_unit, values_of_branch, values_of_entry, values_of_leg}
+use Rattle.treasury_tables.specs.Rows.{values_of_claim, values_of_transfer}
+use Rattle.treasury_tables.specs.Rows.{values_of_part}
 use Rattle.treasury_tables.specs.Rows.{ShowsTables, HoldsFirst, shown_unit, shown_branch}
 use Rattle.treasury_tables.specs.Rows.{shown_entry, shown_leg, shown_claim}
 use Rattle.treasury_tables.specs.Rows.{shown_transfer, shown_part}
@@ -124,32 +125,34 @@ unit_front r = column r 0 ∷ column r 1 ∷ column r 2 ∷ column r 3 ∷ colum
 unit_shows : (r : Row) → output unit_query (at [] r) ≡ unit_keyed (shown_unit r)
 unit_shows r = refl
 
-unit_sorted : (x y : UnitRow) → output_cmp unit_query (unit_keyed (unit_row x)) (unit_keyed (unit_row y)) ≡ unit_cmp x y
+unit_sorted : (x y : UnitRow) → output_cmp unit_query (unit_keyed (values_of_unit x))
+    (unit_keyed (values_of_unit y)) ≡ unit_cmp x y
 unit_sorted x y = simp (value_cmp-Int, then-Equal)
 
 pub units_are : (old new : State) (t : Tables) (rows : List Row) → ShowsTables old.now t
     → IsAscending (λ x y. unit_cmp x y ≡ Less) t.units → Shown unit_rows_text [] old new rows
-    → rows ≡ map unit_row t.units
+    → rows ≡ map values_of_unit t.units
 units_are old new t rows shows up h =
     in_order store_schema 1 (λ _. refl) unit_rows_text unit_columns unit_order _ unit_rows_is.0 unit_rows_is.1
     unit_rows_is.2
-    shown_unit unit_keyed unit_shows (λ _. refl) unit_row unit_cmp unit_sorted old new t.units rows shows.schema
+    shown_unit unit_keyed unit_shows (λ _. refl) values_of_unit unit_cmp unit_sorted old new t.units rows shows.schema
     shows.units up h
 
 pub first_units_are : (old new : State) (t : Tables) (rows : List Row) → HoldsFirst old.now t
     → IsAscending (λ x y. unit_cmp x y ≡ Less) t.units → Shown unit_rows_text [] old new rows
-    → rows ≡ map unit_row t.units
+    → rows ≡ map values_of_unit t.units
 first_units_are old new t rows holds up h =
     in_order first_schema 1 (λ _. refl) unit_rows_text unit_columns unit_order _ first_unit_rows_is.0
-    first_unit_rows_is.1 first_unit_rows_is.2 shown_unit unit_keyed unit_shows (λ _. refl) unit_row unit_cmp
+    first_unit_rows_is.1 first_unit_rows_is.2 shown_unit unit_keyed unit_shows (λ _. refl) values_of_unit unit_cmp
     unit_sorted old new
     t.units rows holds.schema holds.units up h
 
 pub units_shown : (old new : State) (given rows : List Row) (xs : List UnitRow) → given ≡ rows
-    → map unit_row xs ≡ map unit_front given → old.now.schema ≡ store_schema → Shown unit_rows_text [] old new rows
-    → IsPermutation (map unit_row xs) (map shown_unit (old.now.trees 1))
+    → map values_of_unit xs ≡ map unit_front given → old.now.schema ≡ store_schema
+    → Shown unit_rows_text [] old new rows
+    → IsPermutation (map values_of_unit xs) (map shown_unit (old.now.trees 1))
 units_shown old new given rows xs is read has h =
-    read_shown unit_row shown_unit unit_front (λ _. refl) (old.now.trees 1) given rows xs is read
+    read_shown values_of_unit shown_unit unit_front (λ _. refl) (old.now.trees 1) given rows xs is read
     (as_shown store_schema 1 (λ _. refl) unit_rows_text unit_columns unit_order _ unit_rows_is.0 unit_rows_is.1
     unit_rows_is.2
     shown_unit unit_keyed unit_shows (λ _. refl) old new rows has h)
@@ -165,32 +168,32 @@ branch_shows : (r : Row) → output branch_query (at [] r) ≡ branch_keyed (sho
 branch_shows r = refl
 
 branch_sorted : (x y : BranchRow)
-    → output_cmp branch_query (branch_keyed (branch_row x)) (branch_keyed (branch_row y)) ≡ branch_cmp x y
+    → output_cmp branch_query (branch_keyed (values_of_branch x)) (branch_keyed (values_of_branch y)) ≡ branch_cmp x y
 branch_sorted x y = simp (value_cmp-Int, then-Equal)
 
 pub branches_are : (old new : State) (t : Tables) (rows : List Row) → ShowsTables old.now t
     → IsAscending (λ x y. branch_cmp x y ≡ Less) t.branches → Shown branch_rows_text [] old new rows
-    → rows ≡ map branch_row t.branches
+    → rows ≡ map values_of_branch t.branches
 branches_are old new t rows shows up h =
     in_order store_schema 3 (λ _. refl) branch_rows_text branch_columns branch_order _ branch_rows_is.0 branch_rows_is.1
-    branch_rows_is.2 shown_branch branch_keyed branch_shows (λ _. refl) branch_row branch_cmp branch_sorted old new
-    t.branches rows shows.schema shows.branches up h
+    branch_rows_is.2 shown_branch branch_keyed branch_shows (λ _. refl) values_of_branch branch_cmp branch_sorted old
+    new t.branches rows shows.schema shows.branches up h
 
 pub first_branches_are : (old new : State) (t : Tables) (rows : List Row) → HoldsFirst old.now t
     → IsAscending (λ x y. branch_cmp x y ≡ Less) t.branches → Shown branch_rows_text [] old new rows
-    → rows ≡ map branch_row t.branches
+    → rows ≡ map values_of_branch t.branches
 first_branches_are old new t rows holds up h =
     in_order first_schema 3 (λ _. refl) branch_rows_text branch_columns branch_order _ first_branch_rows_is.0
-    first_branch_rows_is.1 first_branch_rows_is.2 shown_branch branch_keyed branch_shows (λ _. refl) branch_row
+    first_branch_rows_is.1 first_branch_rows_is.2 shown_branch branch_keyed branch_shows (λ _. refl) values_of_branch
     branch_cmp branch_sorted old new
     t.branches rows holds.schema holds.branches up h
 
 pub branches_shown : (old new : State) (given rows : List Row) (xs : List BranchRow) → given ≡ rows
-    → map branch_row xs ≡ map branch_front given → old.now.schema ≡ store_schema
+    → map values_of_branch xs ≡ map branch_front given → old.now.schema ≡ store_schema
     → Shown branch_rows_text [] old new rows
-    → IsPermutation (map branch_row xs) (map shown_branch (old.now.trees 3))
+    → IsPermutation (map values_of_branch xs) (map shown_branch (old.now.trees 3))
 branches_shown old new given rows xs is read has h =
-    read_shown branch_row shown_branch branch_front (λ _. refl) (old.now.trees 3) given rows xs is read
+    read_shown values_of_branch shown_branch branch_front (λ _. refl) (old.now.trees 3) given rows xs is read
     (as_shown store_schema 3 (λ _. refl) branch_rows_text branch_columns branch_order _ branch_rows_is.0
     branch_rows_is.1
     branch_rows_is.2 shown_branch branch_keyed branch_shows (λ _. refl) old new rows has h)
@@ -206,32 +209,33 @@ entry_shows : (r : Row) → output entry_query (at [] r) ≡ entry_keyed (shown_
 entry_shows r = refl
 
 entry_sorted : (x y : EntryRow)
-    → output_cmp entry_query (entry_keyed (entry_row x)) (entry_keyed (entry_row y)) ≡ entry_cmp x y
+    → output_cmp entry_query (entry_keyed (values_of_entry x)) (entry_keyed (values_of_entry y)) ≡ entry_cmp x y
 entry_sorted x y = simp (value_cmp-Int, then-Equal)
 
 pub entries_are : (old new : State) (t : Tables) (rows : List Row) → ShowsTables old.now t
     → IsAscending (λ x y. entry_cmp x y ≡ Less) t.entries → Shown entry_rows_text [] old new rows
-    → rows ≡ map entry_row t.entries
+    → rows ≡ map values_of_entry t.entries
 entries_are old new t rows shows up h =
     in_order store_schema 5 (λ _. refl) entry_rows_text entry_columns entry_order _ entry_rows_is.0 entry_rows_is.1
     entry_rows_is.2
-    shown_entry entry_keyed entry_shows (λ _. refl) entry_row entry_cmp entry_sorted old new t.entries rows
+    shown_entry entry_keyed entry_shows (λ _. refl) values_of_entry entry_cmp entry_sorted old new t.entries rows
     shows.schema shows.entries up h
 
 pub first_entries_are : (old new : State) (t : Tables) (rows : List Row) → HoldsFirst old.now t
     → IsAscending (λ x y. entry_cmp x y ≡ Less) t.entries → Shown entry_rows_text [] old new rows
-    → rows ≡ map entry_row t.entries
+    → rows ≡ map values_of_entry t.entries
 first_entries_are old new t rows holds up h =
     in_order first_schema 5 (λ _. refl) entry_rows_text entry_columns entry_order _ first_entry_rows_is.0
-    first_entry_rows_is.1 first_entry_rows_is.2 shown_entry entry_keyed entry_shows (λ _. refl) entry_row entry_cmp
-    entry_sorted old new
+    first_entry_rows_is.1 first_entry_rows_is.2 shown_entry entry_keyed entry_shows (λ _. refl) values_of_entry
+    entry_cmp entry_sorted old new
     t.entries rows holds.schema holds.entries up h
 
 pub entries_shown : (old new : State) (given rows : List Row) (xs : List EntryRow) → given ≡ rows
-    → map entry_row xs ≡ map entry_front given → old.now.schema ≡ store_schema → Shown entry_rows_text [] old new rows
-    → IsPermutation (map entry_row xs) (map shown_entry (old.now.trees 5))
+    → map values_of_entry xs ≡ map entry_front given → old.now.schema ≡ store_schema
+    → Shown entry_rows_text [] old new rows
+    → IsPermutation (map values_of_entry xs) (map shown_entry (old.now.trees 5))
 entries_shown old new given rows xs is read has h =
-    read_shown entry_row shown_entry entry_front (λ _. refl) (old.now.trees 5) given rows xs is read
+    read_shown values_of_entry shown_entry entry_front (λ _. refl) (old.now.trees 5) given rows xs is read
     (as_shown store_schema 5 (λ _. refl) entry_rows_text entry_columns entry_order _ entry_rows_is.0 entry_rows_is.1
     entry_rows_is.2 shown_entry entry_keyed entry_shows (λ _. refl) old new rows has h)
 
@@ -245,28 +249,31 @@ leg_front r = column r 0 ∷ column r 1 ∷ column r 2 ∷ column r 3 ∷ column
 leg_shows : (r : Row) → output leg_query (at [] r) ≡ leg_keyed (shown_leg r)
 leg_shows r = refl
 
-leg_sorted : (x y : LegRow) → output_cmp leg_query (leg_keyed (leg_row x)) (leg_keyed (leg_row y)) ≡ leg_cmp x y
+leg_sorted : (x y : LegRow) → output_cmp leg_query (leg_keyed (values_of_leg x)) (leg_keyed (values_of_leg y)) ≡ leg_cmp
+    x y
 leg_sorted x y = simp (value_cmp-Int, then-Equal)
 
 pub legs_are : (old new : State) (t : Tables) (rows : List Row) → ShowsTables old.now t
-    → IsAscending (λ x y. leg_cmp x y ≡ Less) t.legs → Shown leg_rows_text [] old new rows → rows ≡ map leg_row t.legs
+    → IsAscending (λ x y. leg_cmp x y ≡ Less) t.legs → Shown leg_rows_text [] old new rows
+    → rows ≡ map values_of_leg t.legs
 legs_are old new t rows shows up h =
     in_order store_schema 8 (λ _. refl) leg_rows_text leg_columns leg_order _ leg_rows_is.0 leg_rows_is.1
     leg_rows_is.2 shown_leg
-    leg_keyed leg_shows (λ _. refl) leg_row leg_cmp leg_sorted old new t.legs rows shows.schema shows.legs up h
+    leg_keyed leg_shows (λ _. refl) values_of_leg leg_cmp leg_sorted old new t.legs rows shows.schema shows.legs up h
 
 pub first_legs_are : (old new : State) (t : Tables) (rows : List Row) → HoldsFirst old.now t
-    → IsAscending (λ x y. leg_cmp x y ≡ Less) t.legs → Shown leg_rows_text [] old new rows → rows ≡ map leg_row t.legs
+    → IsAscending (λ x y. leg_cmp x y ≡ Less) t.legs → Shown leg_rows_text [] old new rows
+    → rows ≡ map values_of_leg t.legs
 first_legs_are old new t rows holds up h =
     in_order first_schema 8 (λ _. refl) leg_rows_text leg_columns leg_order _ first_leg_rows_is.0
-    first_leg_rows_is.1 first_leg_rows_is.2 shown_leg leg_keyed leg_shows (λ _. refl) leg_row leg_cmp leg_sorted old new
-    t.legs rows holds.schema holds.legs up h
+    first_leg_rows_is.1 first_leg_rows_is.2 shown_leg leg_keyed leg_shows (λ _. refl) values_of_leg leg_cmp leg_sorted
+    old new t.legs rows holds.schema holds.legs up h
 
 pub legs_shown : (old new : State) (given rows : List Row) (xs : List LegRow) → given ≡ rows
-    → map leg_row xs ≡ map leg_front given → old.now.schema ≡ store_schema → Shown leg_rows_text [] old new rows
-    → IsPermutation (map leg_row xs) (map shown_leg (old.now.trees 8))
+    → map values_of_leg xs ≡ map leg_front given → old.now.schema ≡ store_schema → Shown leg_rows_text [] old new rows
+    → IsPermutation (map values_of_leg xs) (map shown_leg (old.now.trees 8))
 legs_shown old new given rows xs is read has h =
-    read_shown leg_row shown_leg leg_front (λ _. refl) (old.now.trees 8) given rows xs is read
+    read_shown values_of_leg shown_leg leg_front (λ _. refl) (old.now.trees 8) given rows xs is read
     (as_shown store_schema 8 (λ _. refl) leg_rows_text leg_columns leg_order _ leg_rows_is.0 leg_rows_is.1 leg_rows_is.2
     shown_leg leg_keyed leg_shows (λ _. refl) old new rows has h)
 
@@ -281,32 +288,33 @@ claim_shows : (r : Row) → output claim_query (at [] r) ≡ claim_keyed (shown_
 claim_shows r = refl
 
 claim_sorted : (x y : ClaimRow)
-    → output_cmp claim_query (claim_keyed (claim_row x)) (claim_keyed (claim_row y)) ≡ claim_cmp x y
+    → output_cmp claim_query (claim_keyed (values_of_claim x)) (claim_keyed (values_of_claim y)) ≡ claim_cmp x y
 claim_sorted x y = simp (value_cmp-Int, then-Equal)
 
 pub claims_are : (old new : State) (t : Tables) (rows : List Row) → ShowsTables old.now t
     → IsAscending (λ x y. claim_cmp x y ≡ Less) t.claims → Shown claim_rows_text [] old new rows
-    → rows ≡ map claim_row t.claims
+    → rows ≡ map values_of_claim t.claims
 claims_are old new t rows shows up h =
     in_order store_schema 10 (λ _. refl) claim_rows_text claim_columns claim_order _ claim_rows_is.0 claim_rows_is.1
     claim_rows_is.2
-    shown_claim claim_keyed claim_shows (λ _. refl) claim_row claim_cmp claim_sorted old new t.claims rows
+    shown_claim claim_keyed claim_shows (λ _. refl) values_of_claim claim_cmp claim_sorted old new t.claims rows
     shows.schema shows.claims up h
 
 pub first_claims_are : (old new : State) (t : Tables) (rows : List Row) → HoldsFirst old.now t
     → IsAscending (λ x y. claim_cmp x y ≡ Less) t.claims → Shown claim_rows_text [] old new rows
-    → rows ≡ map claim_row t.claims
+    → rows ≡ map values_of_claim t.claims
 first_claims_are old new t rows holds up h =
     in_order first_schema 10 (λ _. refl) claim_rows_text claim_columns claim_order _ first_claim_rows_is.0
-    first_claim_rows_is.1 first_claim_rows_is.2 shown_claim claim_keyed claim_shows (λ _. refl) claim_row claim_cmp
-    claim_sorted old new
+    first_claim_rows_is.1 first_claim_rows_is.2 shown_claim claim_keyed claim_shows (λ _. refl) values_of_claim
+    claim_cmp claim_sorted old new
     t.claims rows holds.schema holds.claims up h
 
 pub claims_shown : (old new : State) (given rows : List Row) (xs : List ClaimRow) → given ≡ rows
-    → map claim_row xs ≡ map claim_front given → old.now.schema ≡ store_schema → Shown claim_rows_text [] old new rows
-    → IsPermutation (map claim_row xs) (map shown_claim (old.now.trees 10))
+    → map values_of_claim xs ≡ map claim_front given → old.now.schema ≡ store_schema
+    → Shown claim_rows_text [] old new rows
+    → IsPermutation (map values_of_claim xs) (map shown_claim (old.now.trees 10))
 claims_shown old new given rows xs is read has h =
-    read_shown claim_row shown_claim claim_front (λ _. refl) (old.now.trees 10) given rows xs is read
+    read_shown values_of_claim shown_claim claim_front (λ _. refl) (old.now.trees 10) given rows xs is read
     (as_shown store_schema 10 (λ _. refl) claim_rows_text claim_columns claim_order _ claim_rows_is.0 claim_rows_is.1
     claim_rows_is.2 shown_claim claim_keyed claim_shows (λ _. refl) old new rows has h)
 
@@ -322,33 +330,34 @@ transfer_shows : (r : Row) → output transfer_query (at [] r) ≡ transfer_keye
 transfer_shows r = refl
 
 transfer_sorted : (x y : TransferRow)
-    → output_cmp transfer_query (transfer_keyed (transfer_row x)) (transfer_keyed (transfer_row y)) ≡ transfer_cmp x y
+    → output_cmp transfer_query (transfer_keyed (values_of_transfer x))
+    (transfer_keyed (values_of_transfer y)) ≡ transfer_cmp x y
 transfer_sorted x y = simp (value_cmp-Text, then-Equal)
 
 pub transfers_are : (old new : State) (t : Tables) (rows : List Row) → ShowsTables old.now t
     → IsAscending (λ x y. transfer_cmp x y ≡ Less) t.transfers → Shown transfer_rows_text [] old new rows
-    → rows ≡ map transfer_row t.transfers
+    → rows ≡ map values_of_transfer t.transfers
 transfers_are old new t rows shows up h =
     in_order store_schema 12 (λ _. refl) transfer_rows_text transfer_columns transfer_order _ transfer_rows_is.0
     transfer_rows_is.1
-    transfer_rows_is.2 shown_transfer transfer_keyed transfer_shows (λ _. refl) transfer_row transfer_cmp
+    transfer_rows_is.2 shown_transfer transfer_keyed transfer_shows (λ _. refl) values_of_transfer transfer_cmp
     transfer_sorted old new t.transfers rows shows.schema shows.transfers up h
 
 pub first_transfers_are : (old new : State) (t : Tables) (rows : List Row) → HoldsFirst old.now t
     → IsAscending (λ x y. transfer_cmp x y ≡ Less) t.transfers → Shown transfer_rows_text [] old new rows
-    → rows ≡ map transfer_row t.transfers
+    → rows ≡ map values_of_transfer t.transfers
 first_transfers_are old new t rows holds up h =
     in_order first_schema 12 (λ _. refl) transfer_rows_text transfer_columns transfer_order _ first_transfer_rows_is.0
     first_transfer_rows_is.1 first_transfer_rows_is.2 shown_transfer transfer_keyed transfer_shows (λ _. refl)
-    transfer_row transfer_cmp transfer_sorted old new
+    values_of_transfer transfer_cmp transfer_sorted old new
     t.transfers rows holds.schema holds.transfers up h
 
 pub transfers_shown : (old new : State) (given rows : List Row) (xs : List TransferRow) → given ≡ rows
-    → map transfer_row xs ≡ map transfer_front given → old.now.schema ≡ store_schema
+    → map values_of_transfer xs ≡ map transfer_front given → old.now.schema ≡ store_schema
     → Shown transfer_rows_text [] old new rows
-    → IsPermutation (map transfer_row xs) (map shown_transfer (old.now.trees 12))
+    → IsPermutation (map values_of_transfer xs) (map shown_transfer (old.now.trees 12))
 transfers_shown old new given rows xs is read has h =
-    read_shown transfer_row shown_transfer transfer_front (λ _. refl) (old.now.trees 12) given rows xs is read
+    read_shown values_of_transfer shown_transfer transfer_front (λ _. refl) (old.now.trees 12) given rows xs is read
     (as_shown store_schema 12 (λ _. refl) transfer_rows_text transfer_columns transfer_order _ transfer_rows_is.0
     transfer_rows_is.1 transfer_rows_is.2 shown_transfer transfer_keyed transfer_shows (λ _. refl) old new rows has
     h)
@@ -363,23 +372,25 @@ part_front r = column r 0 ∷ column r 1 ∷ column r 2 ∷ column r 3 ∷ colum
 part_shows : (r : Row) → output part_query (at [] r) ≡ part_keyed (shown_part r)
 part_shows r = refl
 
-part_sorted : (x y : PartRow) → output_cmp part_query (part_keyed (part_row x)) (part_keyed (part_row y)) ≡ part_cmp x y
+part_sorted : (x y : PartRow) → output_cmp part_query (part_keyed (values_of_part x))
+    (part_keyed (values_of_part y)) ≡ part_cmp x y
 part_sorted x y = simp (value_cmp-Text, then-Equal)
 
 pub parts_are : (old new : State) (t : Tables) (rows : List Row) → ShowsTables old.now t
     → IsAscending (λ x y. part_cmp x y ≡ Less) t.receipts → Shown part_rows_text [] old new rows
-    → rows ≡ map part_row t.receipts
+    → rows ≡ map values_of_part t.receipts
 parts_are old new t rows shows up h =
     in_order store_schema 14 (λ _. refl) part_rows_text part_columns part_order _ part_rows_is.0 part_rows_is.1
     part_rows_is.2
-    shown_part part_keyed part_shows (λ _. refl) part_row part_cmp part_sorted old new t.receipts rows shows.schema
-    shows.receipts up h
+    shown_part part_keyed part_shows (λ _. refl) values_of_part part_cmp part_sorted old new t.receipts rows
+    shows.schema shows.receipts up h
 
 pub parts_shown : (old new : State) (given rows : List Row) (xs : List PartRow) → given ≡ rows
-    → map part_row xs ≡ map part_front given → old.now.schema ≡ store_schema → Shown part_rows_text [] old new rows
-    → IsPermutation (map part_row xs) (map shown_part (old.now.trees 14))
+    → map values_of_part xs ≡ map part_front given → old.now.schema ≡ store_schema
+    → Shown part_rows_text [] old new rows
+    → IsPermutation (map values_of_part xs) (map shown_part (old.now.trees 14))
 parts_shown old new given rows xs is read has h =
-    read_shown part_row shown_part part_front (λ _. refl) (old.now.trees 14) given rows xs is read
+    read_shown values_of_part shown_part part_front (λ _. refl) (old.now.trees 14) given rows xs is read
     (as_shown store_schema 14 (λ _. refl) part_rows_text part_columns part_order _ part_rows_is.0 part_rows_is.1
     part_rows_is.2
     shown_part part_keyed part_shows (λ _. refl) old new rows has h)

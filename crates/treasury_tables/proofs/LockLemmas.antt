@@ -32,10 +32,12 @@ use Rattle.sqlite.specs.Cast.{cast_row}
 use Rattle.sqlite.specs.Listing.{understood}
 use Rattle.sqlite.specs.State.{State, mode_of, Executes}
 use Rattle.sqlite.proofs.Callers.{statement_of, runs_as}
-use Rattle.treasury_tables.specs.Tables.{branch, store_schema}
-use Rattle.treasury_tables.specs.Rows.{Tables, HoldsTables, unit_row, branch_row, entry_row, leg_row, claim_row}
-use Rattle.treasury_tables.specs.Rows.{transfer_row, part_row, shown_unit, shown_branch, shown_entry, shown_leg}
-use Rattle.treasury_tables.specs.Rows.{shown_claim, shown_transfer, shown_part, with_lock}
+use Rattle.treasury_tables.specs.Tables.{branch_table, store_schema}
+use Rattle.treasury_tables.specs.Rows.{Tables, HoldsTables, values_of_unit, values_of_branch, values_of_entry}
+use Rattle.treasury_tables.specs.Rows.{values_of_leg, values_of_claim}
+use Rattle.treasury_tables.specs.Rows.{values_of_transfer, values_of_part, shown_unit, shown_branch, shown_entry}
+use Rattle.treasury_tables.specs.Rows.{shown_leg}
+use Rattle.treasury_tables.specs.Rows.{shown_claim, shown_transfer, shown_part, tables_with_lock}
 use Rattle.treasury_tables.proofs.Steps.{updates}
 use Rattle.treasury_tables.proofs.Texts.{lock_text, lock_is, lock_filter, lock_terms, lock_query}
 use Rattle.treasury_tables.proofs.RowLemmas.{puts_permute, cast_int, cast_null, none_chosen, without_same}
@@ -62,7 +64,7 @@ module _ (nr day : ℤ) where
   query r = asked (shown_branch r)
 
   abbrev recast : Row → Row
-  recast s = cast_row branch (drop 1 s)
+  recast s = cast_row branch_table (drop 1 s)
 
   test : (r : Row) → list_all (holds (at given r)) lock_filter ≡ has_rowid nr r
   test r = go (column r 0)
@@ -70,24 +72,24 @@ module _ (nr day : ℤ) where
       go : (v : Value) → (is_true (binary (Compare Eq Binary) v (Int nr)) && true) ≡ is_eq (value_cmp v (Int nr))
       go v = and-true _ ∙ matched_int v nr
 
-  id_is : (b : BranchRow) → has_rowid nr (branch_row b) ≡ is_it b
+  id_is : (b : BranchRow) → has_rowid nr (values_of_branch b) ≡ is_it b
   id_is b = ap is_eq (value_cmp-Int b.nr nr)
 
-  stored : (b : BranchRow) → recast (asked (branch_row b)) ≡ Int b.nr ∷ Null ∷ Text b.name ∷ Int day ∷ []
+  stored : (b : BranchRow) → recast (asked (values_of_branch b)) ≡ Int b.nr ∷ Null ∷ Text b.name ∷ Int day ∷ []
   stored b = simp (cast_int, cast_null)
 
-  back : (b : BranchRow) → shown_branch (recast (asked (branch_row b))) ≡ branch_row (relocked b)
+  back : (b : BranchRow) → shown_branch (recast (asked (values_of_branch b))) ≡ values_of_branch (relocked b)
   back b = ap shown_branch (stored b)
 
   ids : (bs : List BranchRow) → AllByRecursion (λ r. id_in (rowid r) ≡ nr)
-      (map (λ b. asked (branch_row b)) (filter is_it bs))
+      (map (λ b. asked (values_of_branch b)) (filter is_it bs))
   ids [] = tt
   ids (b ∷ bs) = go (is_it b) refl (ids bs)
     where
       go : (t : Bool) → is_it b ≡ t → AllByRecursion (λ r. id_in (rowid r) ≡ nr)
-          (map (λ b. asked (branch_row b)) (filter is_it bs))
+          (map (λ b. asked (values_of_branch b)) (filter is_it bs))
           → AllByRecursion (λ r. id_in (rowid r) ≡ nr)
-          (map (λ b. asked (branch_row b)) (cond t (b ∷ filter is_it bs) (filter is_it bs)))
+          (map (λ b. asked (values_of_branch b)) (cond t (b ∷ filter is_it bs) (filter is_it bs)))
       go true e more = ((Decides-int_eq b.nr nr).0 e, more)
       go false e more = more
 
@@ -111,15 +113,16 @@ module _ (nr day : ℤ) where
       (ids_same got all.1)
 
   pub locks : (old new : State) (t : Tables) (count : ℕ) → HoldsTables old.now t
-      → Executes lock_text given old new (Ok count) → HoldsTables new.now (with_lock nr day t)
+      → Executes lock_text given old new (Ok count) → HoldsTables new.now (tables_with_lock nr day t)
   locks old new t count holds h =
       let command = Update 2 (record { lets = []; body = lock_query }) in
       let w = runs_as lock_text given old new store_schema holds.shows.schema command lock_is.0 lock_is.1 count h in
       let text = statement_of lock_text (understood store_schema lock_text) in
       let done = subst (λ s. Does old.step_limit (mode_of old) given (record old.now { schema = s }) text None command
       (Ok (w.tally, new.now))) holds.shows.schema w.changed in
-      let made = updates old.step_limit store_schema branch.name branch.tree branch.columns branch.key branch.primary
-      branch.uniques branch.orders given old.now.trees w.tally new.now (mode_of old) 2
+      let made = updates old.step_limit store_schema branch_table.name branch_table.tree branch_table.columns
+      branch_table.key branch_table.primary
+      branch_table.uniques branch_table.orders given old.now.trees w.tally new.now (mode_of old) 2
       (record { lets = []; body = lock_query }) (λ _ _. refl) done in
       let bs = t.branches in
       let db = old.now.trees in
@@ -129,11 +132,12 @@ module _ (nr day : ℤ) where
       let shows : IsPermutation (map query (filter (has_rowid nr) (db 3))) got =
       subst₂ IsPermutation (map-map (λ (o : Output). o.1) (λ r. output lock_query (at given r))
       (filter (has_rowid nr) (db 3))) (sym answer.3) (IsPermutation-map (λ (o : Output). o.1) _ _ answer.1) in
-      let these : IsPermutation (map branch_row (filter is_it bs)) (map shown_branch (filter (has_rowid nr) (db 3))) =
-      picked branch_row shown_branch query recast (λ s. shown_branch (recast (asked s))) relocked is_it (has_rowid nr)
-      (has_rowid nr) (λ _. refl) id_is (λ _. refl) back bs (db 3) holds.shows.branches in
-      let from : IsPermutation (map (λ b. asked (branch_row b)) (filter is_it bs)) got =
-      IsPermutation-trans _ _ _ (subst₂ IsPermutation (map-map asked branch_row (filter is_it bs))
+      let these : IsPermutation (map values_of_branch (filter is_it bs))
+      (map shown_branch (filter (has_rowid nr) (db 3))) =
+      picked values_of_branch shown_branch query recast (λ s. shown_branch (recast (asked s))) relocked is_it
+      (has_rowid nr) (has_rowid nr) (λ _. refl) id_is (λ _. refl) back bs (db 3) holds.shows.branches in
+      let from : IsPermutation (map (λ b. asked (values_of_branch b)) (filter is_it bs)) got =
+      IsPermutation-trans _ _ _ (subst₂ IsPermutation (map-map asked values_of_branch (filter is_it bs))
       (map-map asked shown_branch (filter (has_rowid nr) (db 3))) (IsPermutation-map asked _ _ these)) shows in
       let all : AllByRecursion (λ r. id_in (rowid r) ≡ nr) got =
       recursion_from_All (λ r. id_in (rowid r) ≡ nr) got
@@ -141,7 +145,7 @@ module _ (nr day : ℤ) where
       (All-from_recursion (λ r. id_in (rowid r) ≡ nr) _ (ids bs))) in
       let left = left_is (db 3) got all shows in
       let a = made.3 in
-      let edit : Edit = edit_of db branch (ids_of got) Given 1 got in
+      let edit : Edit = edit_of db branch_table (ids_of got) Given 1 got in
       let news : edit.news ≡ map recast got = numbered_given (left_by db edit) (map recast got) in
       let put : IsPermutation (map recast got ++ filter (λ r. not (has_rowid nr r)) (db 3)) (new.now.trees 3) =
       subst₂ (λ n l. IsPermutation (n ++ l) (new.now.trees 3)) news left
@@ -149,20 +153,21 @@ module _ (nr day : ℤ) where
       record {
         shows = record {
           schema = made.1;
-          units = subst (λ rs. IsPermutation (map unit_row t.units) (map shown_unit rs))
+          units = subst (λ rs. IsPermutation (map values_of_unit t.units) (map shown_unit rs))
               (sym (a.tables.1.0 (omega arith))) holds.shows.units;
-          branches = updated branch_row shown_branch query recast (λ s. shown_branch (recast (asked s))) relocked is_it
+          branches =
+              updated values_of_branch shown_branch query recast (λ s. shown_branch (recast (asked s))) relocked is_it
               (has_rowid nr) (has_rowid nr) (λ _. refl) id_is (λ _. refl) back bs (db 3) got (new.now.trees 3)
               holds.shows.branches shows put;
-          entries = subst (λ rs. IsPermutation (map entry_row t.entries) (map shown_entry rs))
+          entries = subst (λ rs. IsPermutation (map values_of_entry t.entries) (map shown_entry rs))
               (sym (a.tables.1.1.1.0 (omega arith))) holds.shows.entries;
-          legs = subst (λ rs. IsPermutation (map leg_row t.legs) (map shown_leg rs))
+          legs = subst (λ rs. IsPermutation (map values_of_leg t.legs) (map shown_leg rs))
               (sym (a.tables.1.1.1.1.0 (omega arith))) holds.shows.legs;
-          claims = subst (λ rs. IsPermutation (map claim_row t.claims) (map shown_claim rs))
+          claims = subst (λ rs. IsPermutation (map values_of_claim t.claims) (map shown_claim rs))
               (sym (a.tables.1.1.1.1.1.0 (omega arith))) holds.shows.claims;
-          transfers = subst (λ rs. IsPermutation (map transfer_row t.transfers) (map shown_transfer rs))
+          transfers = subst (λ rs. IsPermutation (map values_of_transfer t.transfers) (map shown_transfer rs))
               (sym (a.tables.1.1.1.1.1.1.0 (omega arith))) holds.shows.transfers;
-          receipts = subst (λ rs. IsPermutation (map part_row t.receipts) (map shown_part rs))
+          receipts = subst (λ rs. IsPermutation (map values_of_part t.receipts) (map shown_part rs))
               (sym (a.tables.1.1.1.1.1.1.1.0 (omega arith))) holds.shows.receipts;
         };
         format = ap (map (λ r. column r 1)) (a.tables.0 (omega arith)) ∙ holds.format;

@@ -18,7 +18,7 @@ use Rattle.sqlite.specs.State.{State, Shown}
 use Rattle.sqlite.proofs.Callers.{reads_as, one_permutation}
 use Rattle.treasury_tables.specs.Tables.{store_schema, first_schema}
 use Rattle.treasury_tables.specs.Creating.{has_all, has_receipt}
-use Rattle.treasury_tables.specs.Opening.{AreOursAlone, IsFirst, IsSecond, IsEither}
+use Rattle.treasury_tables.specs.Opening.{AreOursAlone, IsFirstVersion, IsSecond, IsEither}
 use Rattle.treasury_tables.proofs.Texts.{format_rows_text, first_format_rows_is, format_query, format_columns}
 use Rattle.treasury_tables.proofs.Texts.{format_order}
 use Rattle.treasury_tables.proofs.QueryLemmas.{at, answer_is}
@@ -61,11 +61,11 @@ receipt_is_there given s r is same = ap (λ n. list_any (λ (t : Table). same_na
 
 module _ (db : Database) where
   -- a name is missing
-  pub none_there : has_all db.schema ≡ false → IsFirst db ⊎ IsSecond db → ⊥
+  pub none_there : has_all db.schema ≡ false → IsFirstVersion db ⊎ IsSecond db → ⊥
   none_there none (inl first) = true≢false (sym first_all ∙ (ap has_all (sym first.schema) ∙ none))
   none_there none (inr second) = true≢false (sym second_all ∙ (ap has_all (sym second.schema) ∙ none))
 
-  pub not_first : has_receipt db.schema ≡ true → IsFirst db → ⊥
+  pub not_first : has_receipt db.schema ≡ true → IsFirstVersion db → ⊥
   not_first more first = true≢false (sym more ∙ (ap has_receipt first.schema ∙ first_bare))
 
   pub not_second : has_receipt db.schema ≡ false → IsSecond db → ⊥

@@ -25,10 +25,12 @@ use Rattle.sqlite.specs.Cast.{cast_row}
 use Rattle.sqlite.specs.Listing.{understood}
 use Rattle.sqlite.specs.State.{State, mode_of, Executes}
 use Rattle.sqlite.proofs.Callers.{statement_of, runs_as}
-use Rattle.treasury_tables.specs.Tables.{transfer, store_schema}
-use Rattle.treasury_tables.specs.Rows.{Tables, HoldsTables, unit_row, branch_row, entry_row, leg_row, claim_row}
-use Rattle.treasury_tables.specs.Rows.{transfer_row, part_row, shown_unit, shown_branch, shown_entry, shown_leg}
-use Rattle.treasury_tables.specs.Rows.{shown_claim, shown_transfer, shown_part, with_receipt}
+use Rattle.treasury_tables.specs.Tables.{transfer_table, store_schema}
+use Rattle.treasury_tables.specs.Rows.{Tables, HoldsTables, values_of_unit, values_of_branch, values_of_entry}
+use Rattle.treasury_tables.specs.Rows.{values_of_leg, values_of_claim}
+use Rattle.treasury_tables.specs.Rows.{values_of_transfer, values_of_part, shown_unit, shown_branch, shown_entry}
+use Rattle.treasury_tables.specs.Rows.{shown_leg}
+use Rattle.treasury_tables.specs.Rows.{shown_claim, shown_transfer, shown_part, tables_with_receipt}
 use Rattle.treasury_tables.proofs.Steps.{updates}
 use Rattle.treasury_tables.proofs.Texts.{receive_text, receive_is, receive_filter, receive_terms, receive_query}
 use Rattle.treasury_tables.proofs.RowLemmas.{puts_permute, cast_int, cast_null, numbered_given}
@@ -63,7 +65,7 @@ module _ (id : List ℕ) (day : ℤ) (payee : List ℕ) where
   query r = asked (column r 0) (shown_transfer r)
 
   abbrev recast : Row → Row
-  recast s = cast_row transfer (drop 1 s)
+  recast s = cast_row transfer_table (drop 1 s)
 
   -- what the table then shows, whatever the rowid
   abbrev renewed : Row → Row
@@ -72,17 +74,18 @@ module _ (id : List ℕ) (day : ℤ) (payee : List ℕ) where
   test : (r : Row) → list_all (holds (at given r)) receive_filter ≡ has_id r
   test r = and-true _ ∙ matched_text (column r 1) id
 
-  id_is : (x : TransferRow) → shows_id (transfer_row x) ≡ is_it x
+  id_is : (x : TransferRow) → shows_id (values_of_transfer x) ≡ is_it x
   id_is x = ap is_eq (value_cmp-Text x.id id) ∙ is_eq-slice_cmp x.id id
 
-  stored : (x : TransferRow) → recast (asked (Int (pos 0)) (transfer_row x)) ≡ Int (pos 0) ∷ transfer_row (settled x)
+  stored : (x : TransferRow) → recast (asked (Int (pos 0)) (values_of_transfer x)) ≡ Int (pos 0) ∷ values_of_transfer
+      (settled x)
   stored x = simp (cast_int, cast_null)
 
-  back : (x : TransferRow) → renewed (transfer_row x) ≡ transfer_row (settled x)
+  back : (x : TransferRow) → renewed (values_of_transfer x) ≡ values_of_transfer (settled x)
   back x = ap shown_transfer (stored x)
 
   pub receives : (old new : State) (t : Tables) (count : ℕ) → HoldsTables old.now t
-      → Executes receive_text given old new (Ok count) → HoldsTables new.now (with_receipt id day payee t)
+      → Executes receive_text given old new (Ok count) → HoldsTables new.now (tables_with_receipt id day payee t)
   receives old new t count holds h =
       let command = Update 6 (record { lets = []; body = receive_query }) in
       let w = runs_as receive_text given old new store_schema holds.shows.schema command receive_is.0 receive_is.1
@@ -90,9 +93,10 @@ module _ (id : List ℕ) (day : ℤ) (payee : List ℕ) where
       let text = statement_of receive_text (understood store_schema receive_text) in
       let done = subst (λ s. Does old.step_limit (mode_of old) given (record old.now { schema = s }) text None command
       (Ok (w.tally, new.now))) holds.shows.schema w.changed in
-      let made = updates old.step_limit store_schema transfer.name transfer.tree transfer.columns transfer.key
-      transfer.primary transfer.uniques transfer.orders given old.now.trees w.tally new.now (mode_of old) 6
-      (record { lets = []; body = receive_query }) (λ _ _. refl) done in
+      let made = updates old.step_limit store_schema transfer_table.name transfer_table.tree transfer_table.columns
+      transfer_table.key
+      transfer_table.primary transfer_table.uniques transfer_table.orders given old.now.trees w.tally new.now
+      (mode_of old) 6 (record { lets = []; body = receive_query }) (λ _ _. refl) done in
       let db = old.now.trees in
       let got = made.0 in
       let a = made.3 in
@@ -102,7 +106,7 @@ module _ (id : List ℕ) (day : ℤ) (payee : List ℕ) where
       subst₂ IsPermutation (map-map (λ (o : Output). o.1) (λ r. output receive_query (at given r))
       (filter has_id (db 12))) (sym answer.3) (IsPermutation-map (λ (o : Output). o.1) _ _ answer.1) in
       let left = without_chosen (db 12) holds.keyed has_id query (λ _. refl) got shows in
-      let edit : Edit = edit_of db transfer (ids_of got) Given 1 got in
+      let edit : Edit = edit_of db transfer_table (ids_of got) Given 1 got in
       let news : edit.news ≡ map recast got = numbered_given (left_by db edit) (map recast got) in
       let put : IsPermutation (map recast got ++ filter (λ r. not (has_id r)) (db 12)) (new.now.trees 12) =
       subst₂ (λ n l. IsPermutation (n ++ l) (new.now.trees 12)) news left
@@ -110,19 +114,20 @@ module _ (id : List ℕ) (day : ℤ) (payee : List ℕ) where
       record {
         shows = record {
           schema = made.1;
-          units = subst (λ rs. IsPermutation (map unit_row t.units) (map shown_unit rs))
+          units = subst (λ rs. IsPermutation (map values_of_unit t.units) (map shown_unit rs))
               (sym (a.tables.1.0 (omega arith))) holds.shows.units;
-          branches = subst (λ rs. IsPermutation (map branch_row t.branches) (map shown_branch rs))
+          branches = subst (λ rs. IsPermutation (map values_of_branch t.branches) (map shown_branch rs))
               (sym (a.tables.1.1.0 (omega arith))) holds.shows.branches;
-          entries = subst (λ rs. IsPermutation (map entry_row t.entries) (map shown_entry rs))
+          entries = subst (λ rs. IsPermutation (map values_of_entry t.entries) (map shown_entry rs))
               (sym (a.tables.1.1.1.0 (omega arith))) holds.shows.entries;
-          legs = subst (λ rs. IsPermutation (map leg_row t.legs) (map shown_leg rs))
+          legs = subst (λ rs. IsPermutation (map values_of_leg t.legs) (map shown_leg rs))
               (sym (a.tables.1.1.1.1.0 (omega arith))) holds.shows.legs;
-          claims = subst (λ rs. IsPermutation (map claim_row t.claims) (map shown_claim rs))
+          claims = subst (λ rs. IsPermutation (map values_of_claim t.claims) (map shown_claim rs))
               (sym (a.tables.1.1.1.1.1.0 (omega arith))) holds.shows.claims;
-          transfers = updated transfer_row shown_transfer query recast renewed settled is_it has_id shows_id (λ _. refl)
+          transfers =
+              updated values_of_transfer shown_transfer query recast renewed settled is_it has_id shows_id (λ _. refl)
               id_is (λ _. refl) back t.transfers (db 12) got (new.now.trees 12) holds.shows.transfers shows put;
-          receipts = subst (λ rs. IsPermutation (map part_row t.receipts) (map shown_part rs))
+          receipts = subst (λ rs. IsPermutation (map values_of_part t.receipts) (map shown_part rs))
               (sym (a.tables.1.1.1.1.1.1.1.0 (omega arith))) holds.shows.receipts;
         };
         format = ap (map (λ r. column r 1)) (a.tables.0 (omega arith)) ∙ holds.format;

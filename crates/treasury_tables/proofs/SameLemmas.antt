@@ -14,8 +14,10 @@ use Rattle.treasury_state.specs.declared.rows.TransferRow.{TransferRow}
 use Rattle.treasury_state.specs.declared.rows.PartRow.{PartRow}
 use Rattle.treasury_tables.specs.declared.change.Change.{Change}
 use Rattle.treasury_tables.specs.declared.change.Change.TheVariants as change
-use Rattle.treasury_tables.specs.Rows.{Tables, HoldsTables, unit_row, branch_row, entry_row, leg_row, claim_row}
-use Rattle.treasury_tables.specs.Rows.{transfer_row, part_row, locked, received, changed, written}
+use Rattle.treasury_tables.specs.Rows.{Tables, HoldsTables, values_of_unit, values_of_branch, values_of_entry}
+use Rattle.treasury_tables.specs.Rows.{values_of_leg, values_of_claim}
+use Rattle.treasury_tables.specs.Rows.{values_of_transfer, values_of_part, row_locked, row_received, tables_changed}
+use Rattle.treasury_tables.specs.Rows.{written}
 
 pub record Same (t u : Tables) : Type 0 where
   pub units : IsPermutation t.units u.units
@@ -139,7 +141,7 @@ other_receipts t u xs ys h moved =
       receipts = moved;
     }
 
-pub same_changed : (c : Change) (t u : Tables) → Same t u → Same (changed c t) (changed c u)
+pub same_changed : (c : Change) (t u : Tables) → Same t u → Same (tables_changed c t) (tables_changed c u)
 same_changed (change.Unit x) t u h =
     other_units t u (x ∷ t.units) (x ∷ u.units) h (IsPermutation-cons x t.units u.units h.units)
 same_changed (change.Branch x) t u h =
@@ -155,41 +157,42 @@ same_changed (change.Transfer x) t u h =
 same_changed (change.Part x) t u h =
     other_receipts t u (x ∷ t.receipts) (x ∷ u.receipts) h (IsPermutation-cons x t.receipts u.receipts h.receipts)
 same_changed (change.Lock nr day) t u h =
-    other_branches t u (map (locked nr day) t.branches) (map (locked nr day) u.branches) h
-    (IsPermutation-map (locked nr day) t.branches u.branches h.branches)
+    other_branches t u (map (row_locked nr day) t.branches) (map (row_locked nr day) u.branches) h
+    (IsPermutation-map (row_locked nr day) t.branches u.branches h.branches)
 same_changed (change.Receipt id day payee) t u h =
-    other_transfers t u (map (received id day payee) t.transfers) (map (received id day payee) u.transfers) h
-    (IsPermutation-map (received id day payee) t.transfers u.transfers h.transfers)
+    other_transfers t u (map (row_received id day payee) t.transfers) (map (row_received id day payee) u.transfers) h
+    (IsPermutation-map (row_received id day payee) t.transfers u.transfers h.transfers)
 
 pub same_written : (cs : List Change) (t u : Tables) → Same t u → Same (written cs t) (written cs u)
 same_written [] t u h = h
-same_written (c ∷ cs) t u h = same_written cs (changed c t) (changed c u) (same_changed c t u h)
+same_written (c ∷ cs) t u h = same_written cs (tables_changed c t) (tables_changed c u) (same_changed c t u h)
 
 pub written-append : (cs ds : List Change) (t : Tables) → written (cs ++ ds) t ≡ written ds (written cs t)
 written-append [] ds t = refl
-written-append (c ∷ cs) ds t = written-append cs ds (changed c t)
+written-append (c ∷ cs) ds t = written-append cs ds (tables_changed c t)
 
 pub holds_same : (db : Database) (t u : Tables) → Same t u → HoldsTables db t → HoldsTables db u
 holds_same db t u h k = record {
   shows = record {
     schema = k.shows.schema;
     units = IsPermutation-trans _ _ _
-        (IsPermutation-map unit_row u.units t.units (IsPermutation-sym t.units u.units h.units)) k.shows.units;
+        (IsPermutation-map values_of_unit u.units t.units (IsPermutation-sym t.units u.units h.units)) k.shows.units;
     branches = IsPermutation-trans _ _ _
-        (IsPermutation-map branch_row u.branches t.branches (IsPermutation-sym t.branches u.branches h.branches))
+        (IsPermutation-map values_of_branch u.branches t.branches (IsPermutation-sym t.branches u.branches h.branches))
         k.shows.branches;
     entries = IsPermutation-trans _ _ _
-        (IsPermutation-map entry_row u.entries t.entries (IsPermutation-sym t.entries u.entries h.entries))
+        (IsPermutation-map values_of_entry u.entries t.entries (IsPermutation-sym t.entries u.entries h.entries))
         k.shows.entries;
     legs = IsPermutation-trans _ _ _
-        (IsPermutation-map leg_row u.legs t.legs (IsPermutation-sym t.legs u.legs h.legs)) k.shows.legs;
+        (IsPermutation-map values_of_leg u.legs t.legs (IsPermutation-sym t.legs u.legs h.legs)) k.shows.legs;
     claims = IsPermutation-trans _ _ _
-        (IsPermutation-map claim_row u.claims t.claims (IsPermutation-sym t.claims u.claims h.claims)) k.shows.claims;
+        (IsPermutation-map values_of_claim u.claims t.claims (IsPermutation-sym t.claims u.claims h.claims))
+        k.shows.claims;
     transfers = IsPermutation-trans _ _ _
-        (IsPermutation-map transfer_row u.transfers t.transfers
+        (IsPermutation-map values_of_transfer u.transfers t.transfers
         (IsPermutation-sym t.transfers u.transfers h.transfers)) k.shows.transfers;
     receipts = IsPermutation-trans _ _ _
-        (IsPermutation-map part_row u.receipts t.receipts (IsPermutation-sym t.receipts u.receipts h.receipts))
+        (IsPermutation-map values_of_part u.receipts t.receipts (IsPermutation-sym t.receipts u.receipts h.receipts))
         k.shows.receipts;
   };
   format = k.format;

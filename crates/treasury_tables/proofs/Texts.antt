@@ -13,7 +13,8 @@ use Rattle.sqlite.specs.Query.{Query, inner, end}
 use Rattle.sqlite.specs.Listing.{understood, reads_listing}
 use Rattle.sqlite_tied.specs.Compute.{everything}
 use Rattle.sqlite.proofs.Callers.{IsPlain, command_of}
-use Rattle.treasury_tables.specs.Tables.{format, unit, branch, entry, leg, claim, transfer, receipt, store_schema}
+use Rattle.treasury_tables.specs.Tables.{format_table, unit_table, branch_table, entry_table, leg_table, claim_table}
+use Rattle.treasury_tables.specs.Tables.{transfer_table, receipt_table, store_schema}
 use Rattle.treasury_tables.specs.Tables.{first_schema}
 
 abbrev pub table_query : ℕ → List Term → List Term → List (Term × Key) → Query
@@ -36,7 +37,7 @@ up = record { collation = Binary; descending = false }
 abbrev pub create_format_text : List ℕ
 create_format_text = codes "CREATE TABLE format (version INTEGER NOT NULL) STRICT"
 
-pub format_is : table_defined_by create_format_text ≡ Ok (record format { tree = 0 })
+pub format_is : table_defined_by create_format_text ≡ Ok (record format_table { tree = 0 })
 unfolding understood everything
 format_is = refl
 
@@ -78,7 +79,7 @@ format_rows_is = (refl, refl, (refl, refl))
 abbrev pub create_unit_text : List ℕ
 create_unit_text = codes "CREATE TABLE unit (nr INTEGER PRIMARY KEY, symbol TEXT NOT NULL UNIQUE, decimals INTEGER NOT NULL, mark TEXT NOT NULL, grouped INTEGER NOT NULL, leftside INTEGER NOT NULL, spaced INTEGER NOT NULL) STRICT"
 
-pub unit_is : table_defined_by create_unit_text ≡ Ok (record unit { tree = 0 })
+pub unit_is : table_defined_by create_unit_text ≡ Ok (record unit_table { tree = 0 })
 unfolding understood everything
 unit_is = refl
 
@@ -125,7 +126,7 @@ abbrev pub create_branch_text : List ℕ
 create_branch_text =
     codes "CREATE TABLE branch (nr INTEGER PRIMARY KEY, name TEXT NOT NULL UNIQUE, locked INTEGER) STRICT"
 
-pub branch_is : table_defined_by create_branch_text ≡ Ok (record branch { tree = 0 })
+pub branch_is : table_defined_by create_branch_text ≡ Ok (record branch_table { tree = 0 })
 unfolding understood everything
 branch_is = refl
 
@@ -168,7 +169,7 @@ first_branch_rows_is = (refl, refl, (refl, refl))
 abbrev pub create_entry_text : List ℕ
 create_entry_text = codes "CREATE TABLE entry (branch INTEGER NOT NULL, nr INTEGER NOT NULL, day INTEGER NOT NULL, mark TEXT NOT NULL, body TEXT NOT NULL, PRIMARY KEY (branch, nr), UNIQUE (branch, mark)) STRICT"
 
-pub entry_is : table_defined_by create_entry_text ≡ Ok (record entry { tree = 0 })
+pub entry_is : table_defined_by create_entry_text ≡ Ok (record entry_table { tree = 0 })
 unfolding understood everything
 entry_is = refl
 
@@ -213,7 +214,7 @@ first_entry_rows_is = (refl, refl, (refl, refl))
 abbrev pub create_leg_text : List ℕ
 create_leg_text = codes "CREATE TABLE leg (branch INTEGER NOT NULL, entry INTEGER NOT NULL, nr INTEGER NOT NULL, account TEXT NOT NULL, unit INTEGER NOT NULL, qty INTEGER NOT NULL, PRIMARY KEY (branch, entry, nr)) STRICT"
 
-pub leg_is : table_defined_by create_leg_text ≡ Ok (record leg { tree = 0 })
+pub leg_is : table_defined_by create_leg_text ≡ Ok (record leg_table { tree = 0 })
 unfolding understood everything
 leg_is = refl
 
@@ -258,7 +259,7 @@ first_leg_rows_is = (refl, refl, (refl, refl))
 abbrev pub create_claim_text : List ℕ
 create_claim_text = codes "CREATE TABLE claim (branch INTEGER NOT NULL, entry INTEGER NOT NULL, leg INTEGER NOT NULL, kind INTEGER NOT NULL, unit INTEGER NOT NULL, qty INTEGER NOT NULL, PRIMARY KEY (branch, entry, leg)) STRICT"
 
-pub claim_is : table_defined_by create_claim_text ≡ Ok (record claim { tree = 0 })
+pub claim_is : table_defined_by create_claim_text ≡ Ok (record claim_table { tree = 0 })
 unfolding understood everything
 claim_is = refl
 
@@ -303,7 +304,7 @@ first_claim_rows_is = (refl, refl, (refl, refl))
 abbrev pub create_transfer_text : List ℕ
 create_transfer_text = codes "CREATE TABLE transfer (id TEXT NOT NULL PRIMARY KEY, source INTEGER NOT NULL, target INTEGER NOT NULL, unit INTEGER NOT NULL, qty INTEGER NOT NULL, dispatched INTEGER NOT NULL, payer TEXT NOT NULL, received INTEGER, payee TEXT) STRICT"
 
-pub transfer_is : table_defined_by create_transfer_text ≡ Ok (record transfer { tree = 0 })
+pub transfer_is : table_defined_by create_transfer_text ≡ Ok (record transfer_table { tree = 0 })
 unfolding understood everything
 transfer_is = refl
 
@@ -351,7 +352,7 @@ first_transfer_rows_is = (refl, refl, (refl, refl))
 abbrev pub create_receipt_text : List ℕ
 create_receipt_text = codes "CREATE TABLE receipt (transfer TEXT NOT NULL, part TEXT NOT NULL, qty INTEGER NOT NULL, received INTEGER NOT NULL, payee TEXT NOT NULL, PRIMARY KEY (transfer, part)) STRICT"
 
-pub receipt_is : table_defined_by create_receipt_text ≡ Ok (record receipt { tree = 0 })
+pub receipt_is : table_defined_by create_receipt_text ≡ Ok (record receipt_table { tree = 0 })
 unfolding understood everything
 receipt_is = refl
 

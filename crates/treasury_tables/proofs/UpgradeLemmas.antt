@@ -24,13 +24,14 @@ use Rattle.sqlite.specs.Listing.{understood}
 use Rattle.sqlite.specs.State.{State, HasCleanDisk, IsUnchanged, Survives, mode_of, Executes}
 use Rattle.sqlite.proofs.StateLemmas.{survives_then, survives_weaker}
 use Rattle.sqlite.proofs.Callers.{statement_of, runs_as, one_permutation}
-use Rattle.treasury_tables.specs.Tables.{format, receipt, store_schema, first_schema}
+use Rattle.treasury_tables.specs.Tables.{format_table, receipt_table, store_schema, first_schema}
 use Rattle.treasury_tables.specs.Rows.{Tables, HoldsTables, HoldsFirst, versions}
-use Rattle.treasury_tables.specs.Rows.{unit_row, branch_row, entry_row, leg_row, claim_row, transfer_row, part_row}
+use Rattle.treasury_tables.specs.Rows.{values_of_unit, values_of_branch, values_of_entry, values_of_leg}
+use Rattle.treasury_tables.specs.Rows.{values_of_claim, values_of_transfer, values_of_part}
 use Rattle.treasury_tables.specs.Rows.{shown_unit, shown_branch, shown_entry, shown_leg, shown_claim, shown_transfer}
 use Rattle.treasury_tables.specs.Rows.{shown_part}
 use Rattle.treasury_tables.specs.Creating.{Makes}
-use Rattle.treasury_tables.specs.Opening.{AreOursAlone, IsFirst, IsFirstNumbered}
+use Rattle.treasury_tables.specs.Opening.{AreOursAlone, IsFirstVersion, IsFirstNumbered}
 use Rattle.treasury_tables.specs.Upgrading.{SetsVersion, Upgrades, AreUpgraded}
 use Rattle.treasury_tables.proofs.Steps.{updates}
 use Rattle.treasury_tables.proofs.Texts.{second_text, second_terms, second_query, second_is}
@@ -51,7 +52,7 @@ abbrev shown : Row → Row
 shown r = column r 0 ∷ column r 0 ∷ Int (pos 2) ∷ []
 
 abbrev recast : Row → Row
-recast s = cast_row format (drop 1 s)
+recast s = cast_row format_table (drop 1 s)
 
 no_other : {X : Type 0} (xs : List X) → filter (λ _. false) xs ≡ []
 no_other [] = refl
@@ -69,8 +70,9 @@ second_sets_version old new count has version table h =
     let text = statement_of second_text (understood store_schema second_text) in
     let done = subst (λ s. Does old.step_limit (mode_of old) [] (record old.now { schema = s }) text None command
     (Ok (w.tally, new.now))) has w.changed in
-    let made = updates old.step_limit store_schema format.name format.tree format.columns format.key format.primary
-    format.uniques format.orders [] old.now.trees w.tally new.now (mode_of old) 0
+    let made = updates old.step_limit store_schema format_table.name format_table.tree format_table.columns
+    format_table.key format_table.primary
+    format_table.uniques format_table.orders [] old.now.trees w.tally new.now (mode_of old) 0
     (record { lets = []; body = second_query }) (λ _ _. refl) done in
     let db = old.now.trees in
     let got = made.0 in
@@ -84,7 +86,7 @@ second_sets_version old new count has version table h =
     (filter (λ _. true) (db 0))) (sym answer.3) (IsPermutation-map (λ (o : Output). o.1) _ _ answer.1) in
     let is_got : got ≡ shown r ∷ [] =
     one_permutation (shown r) got (subst (λ l. IsPermutation (map shown (filter (λ _. true) l)) got) one.1 shows) in
-    let edit : Edit = edit_of db format (ids_of got) Given 1 got in
+    let edit : Edit = edit_of db format_table (ids_of got) Given 1 got in
     let left : left_by db edit ≡ [] =
     without_chosen (db 0) table (λ _. true) shown (λ _. refl) got shows ∙ no_other (db 0) in
     let news : edit.news ≡ recast (shown r) ∷ [] =
@@ -96,16 +98,18 @@ second_sets_version old new count has version table h =
       version = ap (map (λ r. column r 1)) rows ∙ ap (λ v. v ∷ []) (two_stays r);
       numbered = subst (IsShaped shape.Table) (sym a.rows)
           (shaped_puts edit.news (left_by db edit) a.keyed (subst (IsShaped shape.Table) (sym left) (tt, tt)));
-      others = subst (λ s. AllByRecursion (λ (t : Table). t.tree ≢ format.tree → new.now.trees t.tree ≡ db t.tree)
+      others = subst (λ s. AllByRecursion (λ (t : Table). t.tree ≢ format_table.tree → new.now.trees t.tree ≡ db t.tree)
           s.tables) (sym has) a.tables;
     }
 
 -- ---- both statements
-pub upgrades_by_both : (a b c : Database) → a.schema ≡ first_schema → Makes receipt a b → SetsVersion b c → Upgrades a c
+pub upgrades_by_both : (a b c : Database) → a.schema ≡ first_schema → Makes receipt_table a b → SetsVersion b c
+    → Upgrades a c
 upgrades_by_both a b c has made set =
-    let second : b.schema ≡ store_schema = made.schema ∙ ap (λ s. created s receipt) has in
+    let second : b.schema ≡ store_schema = made.schema ∙ ap (λ s. created s receipt_table) has in
     let kept = subst (λ s. KeepsRows s.tables a.trees b.trees) has made.others in
-    let others = subst (λ s. AllByRecursion (λ (t : Table). t.tree ≢ format.tree → c.trees t.tree ≡ b.trees t.tree)
+    let others = subst (λ s. AllByRecursion
+    (λ (t : Table). t.tree ≢ format_table.tree → c.trees t.tree ≡ b.trees t.tree)
     s.tables) second set.others in
     record {
       schema = set.schema ∙ second;
@@ -131,7 +135,7 @@ upgrades_by_both a b c has made set =
     }
 
 -- the row is there still, between the statements
-pub row_stays : (a b : Database) → a.schema ≡ first_schema → Makes receipt a b → b.trees 0 ≡ a.trees 0
+pub row_stays : (a b : Database) → a.schema ≡ first_schema → Makes receipt_table a b → b.trees 0 ≡ a.trees 0
 row_stays a b has made = (subst (λ s. KeepsRows s.tables a.trees b.trees) has made.others).0
 
 -- ---- what a crash leaves of an opening
@@ -142,7 +146,7 @@ pub no_upgrade : (old mid : State) → Survives old mid (λ _. ⊥)
 no_upgrade old mid left = survives_weaker old mid _ _ (λ clean trees none. absurd none) left
 
 -- and where the upgrade stands after it
-pub then_upgrade : (old mid new : State) → (HasCleanDisk mid → AreOursAlone old.now.schema → IsFirst old.now)
+pub then_upgrade : (old mid new : State) → (HasCleanDisk mid → AreOursAlone old.now.schema → IsFirstVersion old.now)
     → Survives old mid (λ _. ⊥) → (HasCleanDisk mid → IsUnchanged old mid)
     → Survives mid new (λ trees. (db : Database) × (trees ≡ db.trees) × (IsFirstNumbered mid.now → Upgrades mid.now db))
     → Survives old new (λ trees. AreOursAlone old.now.schema → AreUpgraded old.now trees)
@@ -165,17 +169,18 @@ pub upgraded_holds : (a c : Database) (t : Tables) → HoldsFirst a t → Upgrad
 upgraded_holds a c t holds up = record {
   shows = record {
     schema = up.schema;
-    units = subst (λ rs. IsPermutation (map unit_row t.units) (map shown_unit rs)) (sym up.others.0) holds.units;
-    branches = subst (λ rs. IsPermutation (map branch_row t.branches) (map shown_branch rs)) (sym up.others.1.0)
+    units = subst (λ rs. IsPermutation (map values_of_unit t.units) (map shown_unit rs)) (sym up.others.0) holds.units;
+    branches = subst (λ rs. IsPermutation (map values_of_branch t.branches) (map shown_branch rs)) (sym up.others.1.0)
         holds.branches;
-    entries = subst (λ rs. IsPermutation (map entry_row t.entries) (map shown_entry rs)) (sym up.others.1.1.0)
+    entries = subst (λ rs. IsPermutation (map values_of_entry t.entries) (map shown_entry rs)) (sym up.others.1.1.0)
         holds.entries;
-    legs = subst (λ rs. IsPermutation (map leg_row t.legs) (map shown_leg rs)) (sym up.others.1.1.1.0) holds.legs;
-    claims = subst (λ rs. IsPermutation (map claim_row t.claims) (map shown_claim rs)) (sym up.others.1.1.1.1.0)
+    legs = subst (λ rs. IsPermutation (map values_of_leg t.legs) (map shown_leg rs)) (sym up.others.1.1.1.0) holds.legs;
+    claims = subst (λ rs. IsPermutation (map values_of_claim t.claims) (map shown_claim rs)) (sym up.others.1.1.1.1.0)
         holds.claims;
-    transfers = subst (λ rs. IsPermutation (map transfer_row t.transfers) (map shown_transfer rs))
+    transfers = subst (λ rs. IsPermutation (map values_of_transfer t.transfers) (map shown_transfer rs))
         (sym up.others.1.1.1.1.1.0) holds.transfers;
-    receipts = subst₂ (λ ps rs. IsPermutation (map part_row ps) (map shown_part rs)) (sym holds.receipts) (sym up.empty)
+    receipts =
+        subst₂ (λ ps rs. IsPermutation (map values_of_part ps) (map shown_part rs)) (sym holds.receipts) (sym up.empty)
         (IsPermutation-refl []);
   };
   format = up.version;

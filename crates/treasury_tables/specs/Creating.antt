@@ -15,7 +15,7 @@ use Rattle.sqlite_schema.specs.Names.{same_name}
 use Rattle.sqlite_trees.specs.View.{IsShaped}
 use Rattle.sqlite_trees.specs.declared.store.Shape.TheVariants as shape
 use Rattle.treasury_tables.specs.Kept.{IsFaithful}
-use Rattle.treasury_tables.specs.Tables.{format, state_tables, made_all, new_tables}
+use Rattle.treasury_tables.specs.Tables.{format_table, state_tables, made_all, new_tables}
 
 abbrev pub our_names : List (List ℕ)
 our_names = codes "format" ∷ codes "unit" ∷ codes "branch" ∷ codes "entry" ∷ codes "leg" ∷ codes "claim"
@@ -61,7 +61,7 @@ pub record MakesAll (ts : List Table) (old new : Database) : Type 0 where
 -- `format`, which is the last table, gets its row, whose rowid is an integer, and each other table has the rows that it
 -- had
 pub record GivesRow (s : Schema) (old new : Database) : Type 0 where
-  pub schema : new.schema ≡ created s format
+  pub schema : new.schema ≡ created s format_table
   pub row : map (λ r. column r 1) (new.trees (next_tree s)) ≡ Int (pos 2) ∷ []
   pub numbered : IsShaped shape.Table (new.trees (next_tree s))
   pub others : KeepsRows s.tables old.trees new.trees
@@ -69,11 +69,11 @@ pub record GivesRow (s : Schema) (old new : Database) : Type 0 where
 -- The tables of a new treasury stand beside the tables that were there, which have the rows that they had: `format` has
 -- its row, whose rowid is an integer, the others none.
 pub record Beside (old new : Database) : Type 0 where
-  pub schema : new.schema ≡ made_all (format ∷ state_tables) old.schema
+  pub schema : new.schema ≡ made_all (format_table ∷ state_tables) old.schema
   pub version : map (λ r. column r 1) (new.trees (next_tree old.schema)) ≡ Int (pos 2) ∷ []
   pub numbered : IsShaped shape.Table (new.trees (next_tree old.schema))
   pub empty : AllByRecursion (λ (t : Table). new.trees t.tree ≡ [])
-      (new_tables state_tables (created old.schema format))
+      (new_tables state_tables (created old.schema format_table))
   pub others : KeepsRows old.schema.tables old.trees new.trees
 
 -- a crash leaves what it could leave before, or, where no table has AUTOINCREMENT, the tables of a new treasury beside

@@ -6,7 +6,7 @@ use Rattle.sqlite_trees.specs.View.{IsShaped}
 use Rattle.sqlite_trees.specs.declared.store.Shape.TheVariants as shape
 use Rattle.sqlite.specs.Schema.{Schema}
 use Rattle.sqlite.specs.Effect.{Database}
-use Rattle.treasury_tables.specs.Tables.{store_schema, first_schema, format}
+use Rattle.treasury_tables.specs.Tables.{store_schema, first_schema, format_table}
 use Rattle.treasury_tables.specs.Rows.{versions}
 use Rattle.treasury_tables.specs.Creating.{has_all, has_receipt}
 
@@ -17,13 +17,13 @@ pub record AreOursAlone (s : Schema) : Type 0 where
   pub second : has_all s ≡ true → has_receipt s ≡ true → s ≡ store_schema
 
 -- the tables of version 1, with their one row of `format`
-pub record IsFirst (db : Database) : Type 0 where
+pub record IsFirstVersion (db : Database) : Type 0 where
   pub schema : db.schema ≡ first_schema
   pub version : versions db ≡ Int (pos 1) ∷ []
 
 -- and the rowid of that row is an integer, as SQLite has no others
 abbrev pub IsFirstNumbered : Database → Type 0
-IsFirstNumbered db = IsFirst db × IsShaped shape.Table (db.trees format.tree)
+IsFirstNumbered db = IsFirstVersion db × IsShaped shape.Table (db.trees format_table.tree)
 
 -- the tables of version 2, with their one row of `format`
 pub record IsSecond (db : Database) : Type 0 where

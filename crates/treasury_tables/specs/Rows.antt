@@ -10,8 +10,9 @@ use Rattle.sqlite.specs.Effect.{Database}
 use Rattle.sqlite.specs.Tree.{Trees}
 use Rattle.sqlite_trees.specs.View.{IsShaped}
 use Rattle.sqlite_trees.specs.declared.store.Shape.TheVariants as shape
-use Rattle.treasury_tables.specs.Tables.{store_schema, first_schema, format, unit, branch, entry, leg, claim, transfer}
-use Rattle.treasury_tables.specs.Tables.{receipt}
+use Rattle.treasury_tables.specs.Tables.{store_schema, first_schema, format_table, unit_table, branch_table}
+use Rattle.treasury_tables.specs.Tables.{entry_table, leg_table, claim_table, transfer_table}
+use Rattle.treasury_tables.specs.Tables.{receipt_table}
 use Rattle.treasury_tables.specs.declared.change.Change.{Change}
 use Rattle.treasury_tables.specs.declared.change.Change.TheVariants as change
 use Rattle.treasury_state.specs.declared.rows.UnitRow.{UnitRow}
@@ -23,33 +24,33 @@ use Rattle.treasury_state.specs.declared.rows.TransferRow.{TransferRow}
 use Rattle.treasury_state.specs.declared.rows.PartRow.{PartRow}
 use Rattle.treasury_state.specs.declared.rows.Parts.{Parts}
 
--- ---- the columns of each row
-abbrev pub format_row : Row
-format_row = Int (pos 2) ∷ []
+-- ---- the values of each row, column by column
+abbrev pub values_of_format : Row
+values_of_format = Int (pos 2) ∷ []
 
-abbrev pub unit_row : UnitRow → Row
-unit_row u =
+abbrev pub values_of_unit : UnitRow → Row
+values_of_unit u =
     Int u.nr ∷ Text u.symbol ∷ Int u.decimals ∷ Text u.mark ∷ Int u.grouped ∷ Int u.leftside ∷ Int u.spaced ∷ []
 
-abbrev pub branch_row : BranchRow → Row
-branch_row b = Int b.nr ∷ Text b.name ∷ or_null Int b.locked ∷ []
+abbrev pub values_of_branch : BranchRow → Row
+values_of_branch b = Int b.nr ∷ Text b.name ∷ or_null Int b.locked ∷ []
 
-abbrev pub entry_row : EntryRow → Row
-entry_row e = Int e.branch ∷ Int e.nr ∷ Int e.day ∷ Text e.mark ∷ Text e.body ∷ []
+abbrev pub values_of_entry : EntryRow → Row
+values_of_entry e = Int e.branch ∷ Int e.nr ∷ Int e.day ∷ Text e.mark ∷ Text e.body ∷ []
 
-abbrev pub leg_row : LegRow → Row
-leg_row l = Int l.branch ∷ Int l.entry ∷ Int l.nr ∷ Text l.account ∷ Int l.unit ∷ Int l.qty ∷ []
+abbrev pub values_of_leg : LegRow → Row
+values_of_leg l = Int l.branch ∷ Int l.entry ∷ Int l.nr ∷ Text l.account ∷ Int l.unit ∷ Int l.qty ∷ []
 
-abbrev pub claim_row : ClaimRow → Row
-claim_row c = Int c.branch ∷ Int c.entry ∷ Int c.leg ∷ Int c.kind ∷ Int c.unit ∷ Int c.qty ∷ []
+abbrev pub values_of_claim : ClaimRow → Row
+values_of_claim c = Int c.branch ∷ Int c.entry ∷ Int c.leg ∷ Int c.kind ∷ Int c.unit ∷ Int c.qty ∷ []
 
-abbrev pub transfer_row : TransferRow → Row
-transfer_row x =
+abbrev pub values_of_transfer : TransferRow → Row
+values_of_transfer x =
     Text x.id ∷ Int x.source ∷ Int x.target ∷ Int x.unit ∷ Int x.qty ∷ Int x.dispatched ∷ Text x.payer
     ∷ or_null Int x.received ∷ or_null Text x.payee ∷ []
 
-abbrev pub part_row : PartRow → Row
-part_row p = Text p.transfer ∷ Text p.part ∷ Int p.qty ∷ Int p.received ∷ Text p.payee ∷ []
+abbrev pub values_of_part : PartRow → Row
+values_of_part p = Text p.transfer ∷ Text p.part ∷ Int p.qty ∷ Int p.received ∷ Text p.payee ∷ []
 
 -- the rows of each table but `format`, in any order
 abbrev pub Tables : Type 0
@@ -86,39 +87,39 @@ shown_part r = column r 1 ∷ column r 2 ∷ column r 3 ∷ column r 4 ∷ colum
 -- The database is our tables, and these are the rows of each, in any order.
 pub record ShowsTables (db : Database) (t : Tables) : Type 0 where
   pub schema : db.schema ≡ store_schema
-  pub units : IsPermutation (map unit_row t.units) (map shown_unit (db.trees unit.tree))
-  pub branches : IsPermutation (map branch_row t.branches) (map shown_branch (db.trees branch.tree))
-  pub entries : IsPermutation (map entry_row t.entries) (map shown_entry (db.trees entry.tree))
-  pub legs : IsPermutation (map leg_row t.legs) (map shown_leg (db.trees leg.tree))
-  pub claims : IsPermutation (map claim_row t.claims) (map shown_claim (db.trees claim.tree))
-  pub transfers : IsPermutation (map transfer_row t.transfers) (map shown_transfer (db.trees transfer.tree))
-  pub receipts : IsPermutation (map part_row t.receipts) (map shown_part (db.trees receipt.tree))
+  pub units : IsPermutation (map values_of_unit t.units) (map shown_unit (db.trees unit_table.tree))
+  pub branches : IsPermutation (map values_of_branch t.branches) (map shown_branch (db.trees branch_table.tree))
+  pub entries : IsPermutation (map values_of_entry t.entries) (map shown_entry (db.trees entry_table.tree))
+  pub legs : IsPermutation (map values_of_leg t.legs) (map shown_leg (db.trees leg_table.tree))
+  pub claims : IsPermutation (map values_of_claim t.claims) (map shown_claim (db.trees claim_table.tree))
+  pub transfers : IsPermutation (map values_of_transfer t.transfers) (map shown_transfer (db.trees transfer_table.tree))
+  pub receipts : IsPermutation (map values_of_part t.receipts) (map shown_part (db.trees receipt_table.tree))
 
 -- what `format` holds
 abbrev pub versions : Database → List Value
-versions db = map (λ r. column r 1) (db.trees format.tree)
+versions db = map (λ r. column r 1) (db.trees format_table.tree)
 
 -- The database is these tables, and no other; they show these rows, and `format` has the one row 2. Rowids that are no
 -- column are not looked at, but those of `format` and of transfers are integers that rise, as SQLite has no others: an
 -- UPDATE goes by them.
 pub record HoldsTables (db : Database) (t : Tables) : Type 0 where
   pub shows : ShowsTables db t
-  pub numbered : IsShaped shape.Table (db.trees format.tree)
-  pub keyed : IsShaped shape.Table (db.trees transfer.tree)
+  pub numbered : IsShaped shape.Table (db.trees format_table.tree)
+  pub keyed : IsShaped shape.Table (db.trees transfer_table.tree)
   pub format : versions db ≡ Int (pos 2) ∷ []
 
 -- The same of version 1, which has seven tables and the row 1, and no receipts in parts.
 pub record HoldsFirst (db : Database) (t : Tables) : Type 0 where
   pub schema : db.schema ≡ first_schema
-  pub numbered : IsShaped shape.Table (db.trees format.tree)
-  pub units : IsPermutation (map unit_row t.units) (map shown_unit (db.trees unit.tree))
-  pub branches : IsPermutation (map branch_row t.branches) (map shown_branch (db.trees branch.tree))
-  pub entries : IsPermutation (map entry_row t.entries) (map shown_entry (db.trees entry.tree))
-  pub legs : IsPermutation (map leg_row t.legs) (map shown_leg (db.trees leg.tree))
-  pub claims : IsPermutation (map claim_row t.claims) (map shown_claim (db.trees claim.tree))
-  pub transfers : IsPermutation (map transfer_row t.transfers) (map shown_transfer (db.trees transfer.tree))
+  pub numbered : IsShaped shape.Table (db.trees format_table.tree)
+  pub units : IsPermutation (map values_of_unit t.units) (map shown_unit (db.trees unit_table.tree))
+  pub branches : IsPermutation (map values_of_branch t.branches) (map shown_branch (db.trees branch_table.tree))
+  pub entries : IsPermutation (map values_of_entry t.entries) (map shown_entry (db.trees entry_table.tree))
+  pub legs : IsPermutation (map values_of_leg t.legs) (map shown_leg (db.trees leg_table.tree))
+  pub claims : IsPermutation (map values_of_claim t.claims) (map shown_claim (db.trees claim_table.tree))
+  pub transfers : IsPermutation (map values_of_transfer t.transfers) (map shown_transfer (db.trees transfer_table.tree))
   pub receipts : t.receipts ≡ []
-  pub keyed : IsShaped shape.Table (db.trees transfer.tree)
+  pub keyed : IsShaped shape.Table (db.trees transfer_table.tree)
   pub format : versions db ≡ Int (pos 1) ∷ []
 
 -- in either version
@@ -133,52 +134,52 @@ abbrev pub AreFirstTreesOf : Trees → Tables → Type 0
 AreFirstTreesOf trees t = (db : Database) × (trees ≡ db.trees) × HoldsFirst db t
 
 -- ---- changes
-abbrev pub with_unit : UnitRow → Tables → Tables
-with_unit u t = record t { units = u ∷ t.units }
+abbrev pub tables_with_unit : UnitRow → Tables → Tables
+tables_with_unit u t = record t { units = u ∷ t.units }
 
-abbrev pub with_branch : BranchRow → Tables → Tables
-with_branch b t = record t { branches = b ∷ t.branches }
+abbrev pub tables_with_branch : BranchRow → Tables → Tables
+tables_with_branch b t = record t { branches = b ∷ t.branches }
 
-abbrev pub with_entry : EntryRow → Tables → Tables
-with_entry e t = record t { entries = e ∷ t.entries }
+abbrev pub tables_with_entry : EntryRow → Tables → Tables
+tables_with_entry e t = record t { entries = e ∷ t.entries }
 
-abbrev pub with_leg : LegRow → Tables → Tables
-with_leg l t = record t { legs = l ∷ t.legs }
+abbrev pub tables_with_leg : LegRow → Tables → Tables
+tables_with_leg l t = record t { legs = l ∷ t.legs }
 
-abbrev pub with_claim : ClaimRow → Tables → Tables
-with_claim c t = record t { claims = c ∷ t.claims }
+abbrev pub tables_with_claim : ClaimRow → Tables → Tables
+tables_with_claim c t = record t { claims = c ∷ t.claims }
 
-abbrev pub with_transfer : TransferRow → Tables → Tables
-with_transfer x t = record t { transfers = x ∷ t.transfers }
+abbrev pub tables_with_transfer : TransferRow → Tables → Tables
+tables_with_transfer x t = record t { transfers = x ∷ t.transfers }
 
-abbrev pub with_part : PartRow → Tables → Tables
-with_part p t = record t { receipts = p ∷ t.receipts }
+abbrev pub tables_with_part : PartRow → Tables → Tables
+tables_with_part p t = record t { receipts = p ∷ t.receipts }
 
 -- the branch of that number is locked through the day, and each other stays
-abbrev pub locked : ℤ → ℤ → BranchRow → BranchRow
-locked nr day b = if int_eq b.nr nr then record b { locked = Some day } else b
+abbrev pub row_locked : ℤ → ℤ → BranchRow → BranchRow
+row_locked nr day b = if int_eq b.nr nr then record b { locked = Some day } else b
 
-abbrev pub with_lock : ℤ → ℤ → Tables → Tables
-with_lock nr day t = record t { branches = map (locked nr day) t.branches }
+abbrev pub tables_with_lock : ℤ → ℤ → Tables → Tables
+tables_with_lock nr day t = record t { branches = map (row_locked nr day) t.branches }
 
 -- the transfer of that ID was received on the day, into the account, and each other stays
-abbrev pub received : List ℕ → ℤ → List ℕ → TransferRow → TransferRow
-received id day payee x = if bytes_eq x.id id then record x { received = Some day; payee = Some payee } else x
+abbrev pub row_received : List ℕ → ℤ → List ℕ → TransferRow → TransferRow
+row_received id day payee x = if bytes_eq x.id id then record x { received = Some day; payee = Some payee } else x
 
-abbrev pub with_receipt : List ℕ → ℤ → List ℕ → Tables → Tables
-with_receipt id day payee t = record t { transfers = map (received id day payee) t.transfers }
+abbrev pub tables_with_receipt : List ℕ → ℤ → List ℕ → Tables → Tables
+tables_with_receipt id day payee t = record t { transfers = map (row_received id day payee) t.transfers }
 
-abbrev pub changed : Change → Tables → Tables
-changed (change.Unit u) t = with_unit u t
-changed (change.Branch b) t = with_branch b t
-changed (change.Entry e) t = with_entry e t
-changed (change.Leg l) t = with_leg l t
-changed (change.Claim c) t = with_claim c t
-changed (change.Transfer x) t = with_transfer x t
-changed (change.Part p) t = with_part p t
-changed (change.Lock nr day) t = with_lock nr day t
-changed (change.Receipt id day payee) t = with_receipt id day payee t
+abbrev pub tables_changed : Change → Tables → Tables
+tables_changed (change.Unit u) t = tables_with_unit u t
+tables_changed (change.Branch b) t = tables_with_branch b t
+tables_changed (change.Entry e) t = tables_with_entry e t
+tables_changed (change.Leg l) t = tables_with_leg l t
+tables_changed (change.Claim c) t = tables_with_claim c t
+tables_changed (change.Transfer x) t = tables_with_transfer x t
+tables_changed (change.Part p) t = tables_with_part p t
+tables_changed (change.Lock nr day) t = tables_with_lock nr day t
+tables_changed (change.Receipt id day payee) t = tables_with_receipt id day payee t
 
 -- one change after another
 abbrev pub written : List Change → Tables → Tables
-written cs t = fold (λ u c. changed c u) t cs
+written cs t = fold (λ u c. tables_changed c u) t cs

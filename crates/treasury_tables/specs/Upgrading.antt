@@ -10,16 +10,16 @@ use Rattle.sqlite.specs.Effect.{Database}
 use Rattle.sqlite.specs.Store.{Ghosts}
 use Rattle.sqlite.specs.State.{Survives}
 use Rattle.sqlite.specs.Held.{Held, state}
-use Rattle.treasury_tables.specs.Tables.{format, receipt, first_tables, store_schema}
+use Rattle.treasury_tables.specs.Tables.{format_table, receipt_table, first_tables, store_schema}
 use Rattle.treasury_tables.specs.Rows.{versions}
-use Rattle.treasury_tables.specs.Opening.{AreOursAlone, IsFirst}
+use Rattle.treasury_tables.specs.Opening.{AreOursAlone, IsFirstVersion}
 
 -- `format` has the row 2, and each other table the rows that it had
 pub record SetsVersion (old new : Database) : Type 0 where
   pub schema : new.schema ≡ old.schema
   pub version : versions new ≡ Int (pos 2) ∷ []
-  pub numbered : IsShaped shape.Table (new.trees format.tree)
-  pub others : AllByRecursion (λ (t : Table). t.tree ≢ format.tree → new.trees t.tree ≡ old.trees t.tree)
+  pub numbered : IsShaped shape.Table (new.trees format_table.tree)
+  pub others : AllByRecursion (λ (t : Table). t.tree ≢ format_table.tree → new.trees t.tree ≡ old.trees t.tree)
       old.schema.tables
 
 -- Version 2 of what was version 1: `receipt` is there and empty, the row of `format` is 2, and each other table has the
@@ -27,16 +27,16 @@ pub record SetsVersion (old new : Database) : Type 0 where
 pub record Upgrades (old new : Database) : Type 0 where
   pub schema : new.schema ≡ store_schema
   pub version : versions new ≡ Int (pos 2) ∷ []
-  pub numbered : IsShaped shape.Table (new.trees format.tree)
-  pub empty : new.trees receipt.tree ≡ []
+  pub numbered : IsShaped shape.Table (new.trees format_table.tree)
+  pub empty : new.trees receipt_table.tree ≡ []
   pub others : AllByRecursion (λ (t : Table). new.trees t.tree ≡ old.trees t.tree) first_tables
 
 -- the trees of version 2 of what was version 1
 pub record AreUpgraded (old : Database) (trees : Trees) : Type 0 where
-  pub first : IsFirst old
+  pub first : IsFirstVersion old
   pub db : Database
   pub is : trees ≡ db.trees
-  pub upgrades : IsShaped shape.Table (old.trees format.tree) → Upgrades old db
+  pub upgrades : IsShaped shape.Table (old.trees format_table.tree) → Upgrades old db
 
 -- If tables with our names were made by our statements, a crash leaves what it could leave before, or, of version 1,
 -- its version 2.

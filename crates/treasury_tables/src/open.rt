@@ -12,7 +12,7 @@ ghost use Rattle.sqlite_schema.specs.Names.{same_name};
 ghost use Rattle.treasury_tables.specs.Kept.{IsFaithful};
 ghost use Rattle.treasury_tables.specs.Rows.{versions};
 ghost use Rattle.treasury_tables.specs.Creating.{has_all};
-ghost use Rattle.treasury_tables.specs.Opening.{AreOursAlone, IsFirst, IsFirstNumbered, IsSecond, IsEither};
+ghost use Rattle.treasury_tables.specs.Opening.{AreOursAlone, IsFirstVersion, IsFirstNumbered, IsSecond, IsEither};
 ghost use Rattle.treasury_tables.specs.Upgrading.{Upgrades, KeepsOurs};
 
 use crate::upgrading::upgrade;
@@ -138,7 +138,7 @@ pub fn open_tables<S: Alter>(conn: &mut Connection<S>) -> Result<bool, Error>
     ensures there { IsFaithful S.Store conn.new
         → IfOk result
         (λ there. AreOursAlone (state S.Store conn.old).now.schema
-        → IsTrue there ↔ (IsFirst (state S.Store conn.old).now ⊎ IsSecond (state S.Store conn.old).now)) }
+        → IsTrue there ↔ (IsFirstVersion (state S.Store conn.old).now ⊎ IsSecond (state S.Store conn.old).now)) }
     ensures tables { IfOk result (λ there. IsTrue there → IsTrue (has_all (state S.Store conn.old).now.schema)) }
     ensures opened { IsFaithful S.Store conn.new
         → IfOk result (λ there. IsTrue there → IsTrue (state S.Store conn.new).is_open) }
@@ -158,7 +158,7 @@ pub fn open_tables<S: Alter>(conn: &mut Connection<S>) -> Result<bool, Error>
     // Whatever else is there stays.
     ensures same { IsFaithful S.Store conn.new
         → OnOk result
-        (AreOursAlone (state S.Store conn.old).now.schema → (IsFirst (state S.Store conn.old).now → ⊥)
+        (AreOursAlone (state S.Store conn.old).now.schema → (IsFirstVersion (state S.Store conn.old).now → ⊥)
         → ((state S.Store conn.new).now ≡ (state S.Store conn.old).now)
         × ((state S.Store conn.new).committed ≡ (state S.Store conn.old).committed)) }
     ensures clean { doubt (state S.Store conn.old).is_clean ≤ doubt (state S.Store conn.new).is_clean }

@@ -8,7 +8,7 @@ ghost use Rattle.sqlite.specs.Effect.{Database};
 ghost use Rattle.sqlite_trees.specs.View.{IsShaped};
 ghost use Rattle.sqlite_trees.specs.declared.store.Shape.TheVariants as shape;
 ghost use Rattle.treasury_tables.specs.Kept.{IsFaithful};
-ghost use Rattle.treasury_tables.specs.Tables.{store_schema, format};
+ghost use Rattle.treasury_tables.specs.Tables.{store_schema, format_table};
 ghost use Rattle.treasury_tables.specs.Rows.{versions};
 ghost use Rattle.treasury_tables.specs.Opening.{IsFirstNumbered};
 ghost use Rattle.treasury_tables.specs.Upgrading.{SetsVersion, Upgrades};
@@ -23,7 +23,7 @@ fn set_version<S: Alter>(tx: &mut Transaction<'_, S>) -> Result<usize, Error>
         → OnOk result
         ((state S.Store tx.old.conn.now).now.schema ≡ store_schema
         → versions (state S.Store tx.old.conn.now).now ≡ Int (pos 1) ∷ []
-        → IsShaped shape.Table ((state S.Store tx.old.conn.now).now.trees format.tree)
+        → IsShaped shape.Table ((state S.Store tx.old.conn.now).now.trees format_table.tree)
         → SetsVersion (state S.Store tx.old.conn.now).now (state S.Store tx.new.conn.now).now) }
     ensures inside { IsFaithful S.Store tx.new.conn.now
         → OnOk result (IsTrue (state S.Store tx.new.conn.now).in_transaction) }

@@ -7,9 +7,10 @@ ghost use Rattle.sqlite.specs.Values.{or_null};
 ghost use Rattle.sqlite.specs.State.{KeepsCommit, Survives};
 ghost use Rattle.sqlite.specs.Held.{state};
 ghost use Rattle.sqlite.specs.Effect.{Database};
-ghost use Rattle.treasury_tables.specs.Rows.{Tables, HoldsTables, with_unit, with_branch, with_transfer, with_part};
-ghost use Rattle.treasury_tables.specs.Rows.{with_lock};
-ghost use Rattle.treasury_tables.specs.Rows.{with_receipt, changed, written};
+ghost use Rattle.treasury_tables.specs.Rows.{Tables, HoldsTables, tables_with_unit, tables_with_branch};
+ghost use Rattle.treasury_tables.specs.Rows.{tables_with_transfer, tables_with_part};
+ghost use Rattle.treasury_tables.specs.Rows.{tables_with_lock};
+ghost use Rattle.treasury_tables.specs.Rows.{tables_with_receipt, tables_changed, written};
 ghost use Rattle.treasury_tables.specs.Kept.{Writes, IsFaithful};
 ghost use Rattle.treasury_tables.specs.Kinds.{is_single};
 
@@ -26,7 +27,7 @@ use sqlite::{Alter, Connection, Error, ErrorCode, Transaction};
 /// Writes one change.
 fn put<S: Alter>(tx: &mut Transaction<'_, S>, change: &Change) -> Result<usize, Error>
     ensures same_reference { tx.new.conn.ghost_name ≡ tx.old.conn.ghost_name }
-    ensures writes { Writes S.Store tx.old.conn.now tx.new.conn.now result (changed change.now) }
+    ensures writes { Writes S.Store tx.old.conn.now tx.new.conn.now result (tables_changed change.now) }
 {
     match change {
         Change::Unit(row) => put_unit(tx, row),

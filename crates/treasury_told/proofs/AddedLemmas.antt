@@ -12,14 +12,14 @@ use Rattle.journal_format.specs.declared.txn.Txn.{Txn}
 use Rattle.journal_format.specs.declared.txn.Located.{Located}
 use Rattle.journal_format.specs.CanonicalText.{marked}
 use Rattle.journal_format.specs.Pieces.{Reads}
-use Rattle.journal_balance.specs.Legs.{legs_of}
+use Rattle.journal_balance.specs.Legs.{balanced_entry}
 use Rattle.treasury_state.specs.declared.record.Record.{Record}
-use Rattle.treasury_state.specs.Mark.{mark_of, is_held}
+use Rattle.treasury_state.specs.Mark.{transaction_mark, is_held}
 use Rattle.treasury_core.specs.Step.{fault_on, unbalanced, number_in, recorded, records_from, new_in}
 use Rattle.treasury_told.specs.declared.explain.standing.Standing.{Standing}
 use Rattle.treasury_told.specs.Standing.{is_nobody, located_of, txns_of, AreStanding}
 use Rattle.treasury_told.specs.Numbered.{new_of}
-use Rattle.treasury_told.specs.Added.{added_from, lines_of, added_lines, IsTaken}
+use Rattle.treasury_told.specs.Added.{added_from, header_line_numbers, added_lines, IsTaken}
 use Rattle.treasury_told.proofs.RefusedLemmas.{record_of, entry_there}
 use Rattle.treasury_told.proofs.PassingLemmas.{IsKept, kept_old, kept_new}
 
@@ -29,10 +29,10 @@ added_count : (styles : List Style) (held : List Record) (before : List Txn) (xs
     → length (added_from styles held before xs) ≡ length (new_in held (records_from styles before xs))
 added_count styles held before [] even = refl
 added_count styles held before (x ∷ xs) even =
-    by_legs (legs_of styles x.txn) even (λ more e. added_count styles more (before ++ x.txn ∷ []) xs e)
+    by_legs (balanced_entry styles x.txn) even (λ more e. added_count styles more (before ++ x.txn ∷ []) xs e)
   where
     m : List ℕ
-    m = mark_of styles x.txn (number_in styles before x.txn) x.txn.mark
+    m = transaction_mark styles x.txn (number_in styles before x.txn) x.txn.mark
 
     next : List Txn
     next = before ++ x.txn ∷ []
@@ -67,7 +67,7 @@ pub none_added : (styles : List Style) (held : List Record) (text : List ℕ) (n
 none_added styles held text new list none h =
     by_length (added_from styles held [] list) (taken_count styles held text new list h ∙ none)
   where
-    by_length : (xs : List Located) → length xs ≡ 0 → lines_of xs ≡ []
+    by_length : (xs : List Located) → length xs ≡ 0 → header_line_numbers xs ≡ []
     by_length [] e = refl
     by_length (x ∷ xs) e = absurd (omega (arith, e))
 
@@ -75,7 +75,7 @@ at_most : (styles : List Style) (held : List Record) (before : List Txn) (xs : L
     → length (added_from styles held before xs) ≤ length xs
 at_most styles held before [] = omega (arith)
 at_most styles held before (x ∷ xs) =
-    by_held (is_held held (mark_of styles x.txn (number_in styles before x.txn) x.txn.mark))
+    by_held (is_held held (transaction_mark styles x.txn (number_in styles before x.txn) x.txn.mark))
     (added_from styles held next xs) (added_from styles more next xs) (at_most styles held next xs)
     (at_most styles more next xs)
   where
@@ -83,8 +83,8 @@ at_most styles held before (x ∷ xs) =
     next = before ++ x.txn ∷ []
 
     more : List Record
-    more = held ++ recorded x.txn (mark_of styles x.txn (number_in styles before x.txn) x.txn.mark)
-        (legs_of styles x.txn)
+    more = held ++ recorded x.txn (transaction_mark styles x.txn (number_in styles before x.txn) x.txn.mark)
+        (balanced_entry styles x.txn)
 
     by_held : (t : Bool) (a b : List Located) → length a ≤ length xs → length b ≤ length xs
         → length (if t then a else x ∷ b) ≤ suc (length xs)
@@ -95,7 +95,7 @@ all_added : (styles : List Style) (held : List Record) (before : List Txn) (xs :
     → length (added_from styles held before xs) ≡ length xs → added_from styles held before xs ≡ xs
 all_added styles held before [] e = refl
 all_added styles held before (x ∷ xs) e =
-    by_held (is_held held (mark_of styles x.txn (number_in styles before x.txn) x.txn.mark))
+    by_held (is_held held (transaction_mark styles x.txn (number_in styles before x.txn) x.txn.mark))
     (added_from styles held next xs) (added_from styles more next xs) (at_most styles held next xs)
     (all_added styles more next xs) e
   where
@@ -103,8 +103,8 @@ all_added styles held before (x ∷ xs) e =
     next = before ++ x.txn ∷ []
 
     more : List Record
-    more = held ++ recorded x.txn (mark_of styles x.txn (number_in styles before x.txn) x.txn.mark)
-        (legs_of styles x.txn)
+    more = held ++ recorded x.txn (transaction_mark styles x.txn (number_in styles before x.txn) x.txn.mark)
+        (balanced_entry styles x.txn)
 
     by_held : (t : Bool) (a b : List Located) → length a ≤ length xs → (length b ≡ length xs → b ≡ xs)
         → length (if t then a else x ∷ b) ≡ suc (length xs) → (if t then a else x ∷ b) ≡ x ∷ xs
@@ -112,11 +112,11 @@ all_added styles held before (x ∷ xs) e =
     by_held false a b h k e = ap (λ (ys : List Located). x ∷ ys) (k (omega (arith, e)))
 
 pub all_lines : (styles : List Style) (held : List Record) (text : List ℕ) (new : List Record) (list : List Located)
-    (lines : List ℕ) → length lines ≡ length new → lines ≡ lines_of list → IsTaken styles held text new list
+    (lines : List ℕ) → length lines ≡ length new → lines ≡ header_line_numbers list → IsTaken styles held text new list
     → lines ≡ added_lines styles held list
 all_lines styles held text new list lines many are h =
     are
-    ∙ ap lines_of (sym (all_added styles held [] list (taken_count styles held text new list h
+    ∙ ap header_line_numbers (sym (all_added styles held [] list (taken_count styles held text new list h
     ∙ sym many ∙ ap (λ (ns : List ℕ). length ns) are ∙ length-map list (λ (x : Located). x.line))))
 
 -- ---- they are those of which nobody holds the mark
@@ -141,12 +141,13 @@ standing_added styles records before (s ∷ rest) now standing even kept =
     same : txns_of (before ++ s ∷ []) ≡ txns_of before ++ s.txn ∷ []
     same = map-append (λ (y : Standing). y.txn) before (s ∷ [])
 
-    by_entry : (e : Entry) → legs_of styles s.txn ≡ Ok e
+    by_entry : (e : Entry) → balanced_entry styles s.txn ≡ Ok e
         → ((next : List Record) → IsKept records (before ++ s ∷ []) next
         → later (txns_of (before ++ s ∷ [])) next ≡ located_of (new_of rest))
         → added_from styles now (txns_of before) (x ∷ located_of rest) ≡ located_of (new_of (s ∷ rest))
     by_entry e legs more =
-        ap (λ (r : Result Entry Cause). one (mark_of styles s.txn (number_in styles (txns_of before) s.txn) s.txn.mark)
+        ap (λ (r : Result Entry Cause). one
+        (transaction_mark styles s.txn (number_in styles (txns_of before) s.txn) s.txn.mark)
         r (txns_of before ++ s.txn ∷ [])) legs
         ∙ ap (λ (m : List ℕ). one m (Ok e) (txns_of before ++ s.txn ∷ [])) (sym standing.0.mark)
         ∙ ap (one s.mark (Ok e)) (sym same)
@@ -167,7 +168,7 @@ standing_added styles records before (s ∷ rest) now standing even kept =
             (kept_new records before now s e kept))
             ∙ sym (ap (λ (t : Bool). located_of (if t then s ∷ new_of rest else new_of rest)) (nobody ∙ ap not none))
 
-lines_there : (found : List Standing) → lines_of (located_of found) ≡ map (λ (s : Standing). s.line) found
+lines_there : (found : List Standing) → header_line_numbers (located_of found) ≡ map (λ (s : Standing). s.line) found
 lines_there [] = refl
 lines_there (s ∷ rest) = ap (λ (ns : List ℕ). s.line ∷ ns) (lines_there rest)
 
@@ -178,6 +179,7 @@ pub read_lines : (styles : List Style) (held : List Record) (text : List ℕ) (n
 read_lines styles held text new list found standing only h =
     let same = only list h.reads in
     sym (lines_there (new_of found))
-    ∙ ap lines_of (sym (standing_added styles held [] found held standing (ap (unbalanced styles) same ∙ h.even)
+    ∙ ap header_line_numbers (sym (standing_added styles held [] found held standing
+    (ap (unbalanced styles) same ∙ h.even)
     (λ m. sym (or-false (is_held held m)))))
     ∙ ap (added_lines styles held) same

@@ -22,36 +22,37 @@ use Rattle.treasury_core.proofs.ReplyLemmas.{own_marks_of}
 use Rattle.treasury_told.specs.declared.explain.at_fault.Bar.{Bar}
 use Rattle.treasury_told.specs.declared.explain.standing.Standing.{Standing}
 use Rattle.treasury_told.specs.Standing.{located_of, AreStanding}
-use Rattle.treasury_told.specs.Numbered.{numbered, new_of, EntryOf, held, brought, entries_with}
-use Rattle.treasury_told.specs.AtFault.{cause_of, IsRefusedAt}
+use Rattle.treasury_told.specs.Numbered.{item_of_number, new_of, EntryOf, held, brought, entries_with}
+use Rattle.treasury_told.specs.AtFault.{cause_of_bar, IsRefusedAt}
 use Rattle.treasury_told.specs.Refused.{IsBarredText, IsFoundAt}
 use Rattle.treasury_requests.specs.declared.request.Request.{Request}
-use Rattle.treasury_told.specs.Failure.{place_text, found_text, own_entry, failure_of, failure_text, judged_branch}
-use Rattle.treasury_told.specs.Failure.{journal_of, text_in, AreFound, TellsFailure}
+use Rattle.treasury_told.specs.Failure.{claim_place_text, found_text, own_entry, failure_of, failure_text}
+use Rattle.treasury_told.specs.Failure.{judged_branch}
+use Rattle.treasury_told.specs.Failure.{journal_asked, text_in, AreFound, TellsFailure}
 use Rattle.treasury_told.proofs.AtFaultLemmas.{all_at}
 use Rattle.treasury_told.proofs.FailureLemmas.{all_new}
 
 -- its place, and what is found there
 pub failure_is : (styles : List Style) (records : List Record) (source text : List ℕ) (found : List Standing)
     (f : Failure) (one : Option EntryOf) (own : Option Entry) (old first new : List ℕ)
-    → numbered (entries_with records found) f.place.entry ≡ one
-    → first ≡ old ++ place_text styles source text f.place.entry f.place.leg one → own ≡ own_entry styles one
+    → item_of_number (entries_with records found) f.place.entry ≡ one
+    → first ≡ old ++ claim_place_text styles source text f.place.entry f.place.leg one → own ≡ own_entry styles one
     → new ≡ first ++ found_text styles records source found own f
     → new ≡ old ++ failure_text styles records source text found f
 unfolding failure_text
 failure_is styles records source text found f one own old first new is place same rest =
     rest
     ∙ ap (λ (xs : List ℕ). xs ++ found_text styles records source found own f) place
-    ∙ append_assoc old (place_text styles source text f.place.entry f.place.leg one)
+    ∙ append_assoc old (claim_place_text styles source text f.place.entry f.place.leg one)
     (found_text styles records source found own f)
-    ∙ ap (λ (e : Option Entry). old ++ (place_text styles source text f.place.entry f.place.leg one
+    ∙ ap (λ (e : Option Entry). old ++ (claim_place_text styles source text f.place.entry f.place.leg one
     ++ found_text styles records source found e f)) same
     ∙ ap (λ (o : Option EntryOf). old ++ failure_of styles records source text found f o) (sym is)
 
 -- in a state
 pub failure_told : (f : Federation) (request : Request) (source : List ℕ) (failure : Failure) (old new : List ℕ)
     (styles : List Style) (records : List Record) (found : List Standing) (journal : Option (List ℕ)) (text : List ℕ)
-    → styles ≡ f.styles → records ≡ records_of f (judged_branch request) → journal ≡ journal_of request
+    → styles ≡ f.styles → records ≡ records_of f (judged_branch request) → journal ≡ journal_asked request
     → text ≡ text_in journal → AreFound styles records journal found
     → new ≡ old ++ failure_text styles records source text found failure
     → TellsFailure f request source failure old new
@@ -83,7 +84,7 @@ all_held P [] ys h = h
 all_held P (r ∷ rest) ys h = (tt, all_held P rest ys h)
 
 pub brought_is : (P : Standing → Type 0) (records : List Record) (found : List Standing) (n : ℕ) (s : Standing)
-    → Some (brought s) ≡ numbered (entries_with records found) n → AllByRecursion P found → P s
+    → Some (brought s) ≡ item_of_number (entries_with records found) n → AllByRecursion P found → P s
 brought_is P records found zero s e h = absurd cc
 brought_is P records found (suc n) s e h =
     let all = all_held P records (map brought (new_of found)) (all_brought P (new_of found) (all_new P found h)) in
@@ -97,15 +98,15 @@ pub barred_found : (f : Federation) (name journal : List ℕ) (bar : Bar) (style
     → AreStanding styles records [] found
     → ((list : List Located) → Reads styles journal list → located_of found ≡ list)
     → (AreStanding styles records [] found → HaveOwnMarks records → unbalanced styles (located_of found) ≡ None
-    → refused_in styles lock records (records_in_file styles (located_of found)) ≡ Some (Plain (cause_of bar))
-    → (i : ℕ) × (o ≡ Some i) × IsRefusedAt styles lock records (located_of found) i (cause_of bar))
+    → refused_in styles lock records (records_in_file styles (located_of found)) ≡ Some (Plain (cause_of_bar bar))
+    → (i : ℕ) × (o ≡ Some i) × IsRefusedAt styles lock records (located_of found) i (cause_of_bar bar))
     → IsBarredText f name journal bar → (i : ℕ) × (o ≡ Some i) × IsFoundAt f name journal bar found i
 barred_found f name journal bar styles records lock found o s r l good reads standing only decides is =
     let file = located_of found in
     let same : file ≡ is.list = only is.list (subst (λ (x : List Style). Reads x journal is.list) (sym s) is.reads) in
     let even : unbalanced styles file ≡ None =
     ap (λ (x : List Style). unbalanced x file) s ∙ ap (unbalanced f.styles) same ∙ is.even in
-    let refused : refused_in styles lock records (records_in_file styles file) ≡ Some (Plain (cause_of bar)) =
+    let refused : refused_in styles lock records (records_in_file styles file) ≡ Some (Plain (cause_of_bar bar)) =
     ap (λ (x : List Style). refused_in x lock records (records_in_file x file)) s
     ∙ ap (λ (x : Option Day). refused_in f.styles x records (records_in_file f.styles file)) l
     ∙ ap (λ (x : List Record). refused_in f.styles (lock_of f name) x (records_in_file f.styles file)) r
@@ -120,9 +121,9 @@ barred_found f name journal bar styles records lock found o s r l good reads sta
         reads = subst (λ (x : List Style). Reads x journal file) s reads;
         standing = subst (λ (x : List Record). AreStanding f.styles x [] found) r
             (subst (λ (x : List Style). AreStanding x records [] found) s standing);
-        refused = subst (λ (x : List Record). IsRefusedAt f.styles (lock_of f name) x file first.0 (cause_of bar)) r
-            (subst (λ (x : Option Day). IsRefusedAt f.styles x records file first.0 (cause_of bar)) l
-            (subst (λ (x : List Style). IsRefusedAt x lock records file first.0 (cause_of bar)) s first.2));
+        refused = subst (λ (x : List Record). IsRefusedAt f.styles (lock_of f name) x file first.0 (cause_of_bar bar)) r
+            (subst (λ (x : Option Day). IsRefusedAt f.styles x records file first.0 (cause_of_bar bar)) l
+            (subst (λ (x : List Style). IsRefusedAt x lock records file first.0 (cause_of_bar bar)) s first.2));
       },
     )
 
@@ -130,8 +131,8 @@ barred_found f name journal bar styles records lock found o s r l good reads sta
 abbrev pub DecidesOn : List Style → List Record → Option Day → Bar → Option ℕ → List Standing → Type 0
 DecidesOn styles records lock bar o found =
     AreStanding styles records [] found → HaveOwnMarks records → unbalanced styles (located_of found) ≡ None
-    → refused_in styles lock records (records_in_file styles (located_of found)) ≡ Some (Plain (cause_of bar))
-    → (i : ℕ) × (o ≡ Some i) × IsRefusedAt styles lock records (located_of found) i (cause_of bar)
+    → refused_in styles lock records (records_in_file styles (located_of found)) ≡ Some (Plain (cause_of_bar bar))
+    → (i : ℕ) × (o ≡ Some i) × IsRefusedAt styles lock records (located_of found) i (cause_of_bar bar)
 
 pub barred_in : (f : Federation) (name journal : List ℕ) (bar : Bar) (styles : List Style) (records : List Record)
     (lock : Option Day) (found slice : List Standing) (o : Option ℕ) → styles ≡ f.styles

@@ -21,15 +21,15 @@ use Rattle.book_core.specs.declared.entry.Entry.{Entry}
 use Rattle.book_core.specs.declared.leg.Leg.{Leg}
 use Rattle.book_core.specs.declared.place.Place.{Place}
 use Rattle.book_core.specs.Book.{Posted, posted_legs}
-use Rattle.journal_balance.specs.Legs.{legs_of}
+use Rattle.journal_balance.specs.Legs.{balanced_entry}
 use Rattle.treasury_state.specs.declared.record.Record.{Record}
 use Rattle.treasury_state.proofs.RestLemmas.{same_heads, same_tails}
 use Rattle.treasury_told.specs.declared.explain.standing.Standing.{Standing}
 use Rattle.treasury_told.specs.declared.explain.touching.Watched.{Watched}
 use Rattle.treasury_told.specs.Standing.{entry_in, is_nobody}
 use Rattle.treasury_told.specs.Numbered.{new_of}
-use Rattle.treasury_told.specs.Failure.{is_seen, touches_in, touching, same_leg, same_legs, most_listed, more_text}
-use Rattle.treasury_told.specs.Failure.{list_text}
+use Rattle.treasury_told.specs.Failure.{is_seen, touches_in, touching, same_leg, same_legs, most_listed, more_new_text}
+use Rattle.treasury_told.specs.Failure.{touching_list_text}
 
 -- ---- the entry of a transaction
 pub entry_found : (r s : Result Entry Cause) (e : Entry) → (r ≡ s) ⊎ (r ≡ Err OutOfMemory) → r ≡ Ok e
@@ -83,7 +83,7 @@ touching_held styles w end n i list front all s h e off before =
 
 pub touching_next : (styles : List Style) (w : Watched) (end : Place) (n i : ℕ) (list front next all : List Standing)
     (s : Standing) (t : Bool) → i < length list → s ≡ get_or list i s → is_nobody s.holder ≡ true
-    → t ≡ touches_in w end n (entry_in (legs_of styles s.txn)) → next ≡ front ++ (if t then s ∷ [] else [])
+    → t ≡ touches_in w end n (entry_in (balanced_entry styles s.txn)) → next ≡ front ++ (if t then s ∷ [] else [])
     → front ++ touching styles w end n (new_of (drop i list)) ≡ all
     → next ++ touching styles w end (n + 1) (new_of (drop (i + 1) list)) ≡ all
 touching_next styles w end n i list front next all s t h e on is added before =
@@ -102,20 +102,20 @@ next_few false n m e = omega (arith, e)
 pub touching_step : (styles : List Style) (w : Watched) (end : Place) (n m i : ℕ) (list front next all : List Standing)
     (s : Standing) → i < length list → s ≡ get_or list i s
     → next
-    ≡ front ++ (if is_nobody s.holder && touches_in w end n (entry_in (legs_of styles s.txn)) then s ∷ [] else [])
-    → m ≡ (if is_nobody s.holder then n + 1 else n)
+    ≡ front ++ (if is_nobody s.holder && touches_in w end n (entry_in (balanced_entry styles s.txn)) then s ∷ [] else
+    []) → m ≡ (if is_nobody s.holder then n + 1 else n)
     → front ++ touching styles w end n (new_of (drop i list)) ≡ all
     → next ++ touching styles w end m (new_of (drop (i + 1) list)) ≡ all
 touching_step styles w end n m i list front next all s h e added number before =
     by_test (is_nobody s.holder) refl added number
   where
     by_test : (t : Bool) → is_nobody s.holder ≡ t
-        → next ≡ front ++ (if t && touches_in w end n (entry_in (legs_of styles s.txn)) then s ∷ [] else [])
+        → next ≡ front ++ (if t && touches_in w end n (entry_in (balanced_entry styles s.txn)) then s ∷ [] else [])
         → m ≡ (if t then n + 1 else n) → next ++ touching styles w end m (new_of (drop (i + 1) list)) ≡ all
     by_test true on added number =
         ap (λ (k : ℕ). next ++ touching styles w end k (new_of (drop (i + 1) list))) number
         ∙ touching_next styles w end n i list front next all s
-        (touches_in w end n (entry_in (legs_of styles s.txn))) h e on refl added before
+        (touches_in w end n (entry_in (balanced_entry styles s.txn))) h e on refl added before
     by_test false off added number =
         ap (λ (k : ℕ). next ++ touching styles w end k (new_of (drop (i + 1) list))) number
         ∙ ap (λ (xs : List Standing). xs ++ touching styles w end n (new_of (drop (i + 1) list)))
@@ -151,8 +151,8 @@ all_touching : (P : Standing → Type 0) (styles : List Style) (w : Watched) (en
     → AllByRecursion P new → AllByRecursion P (touching styles w end n new)
 all_touching P styles w end n [] h = h
 all_touching P styles w end n (s ∷ rest) h =
-    hit_at_all P s (touching styles w end (n + 1) rest) (touches_in w end n (entry_in (legs_of styles s.txn))) h.0
-    (all_touching P styles w end (n + 1) rest h.1)
+    hit_at_all P s (touching styles w end (n + 1) rest) (touches_in w end n (entry_in (balanced_entry styles s.txn)))
+    h.0 (all_touching P styles w end (n + 1) rest h.1)
 
 pub found_all : (P : Standing → Type 0) (styles : List Style) (w : Watched) (end : Place) (n : ℕ) (list : List Standing)
     (found : List (Bor Standing)) → list_of found ≡ touching styles w end n (new_of list) → AllByRecursion P list
@@ -192,18 +192,19 @@ legs_test xs ys b h = same_from_decides b (same_legs xs ys) h (legs_decides xs y
 -- ---- the first few, each with its text, and how many more there are
 pub listed_text : (f : Standing → List ℕ) (new listed : List (Bor Standing)) (old one two : List ℕ)
     → listed ≡ take most_listed new → one ≡ old ++ flat_map f (list_of listed)
-    → two ≡ one ++ more_text (length new)
-    → two ≡ old ++ (flat_map f (take most_listed (list_of new)) ++ more_text (length (list_of new)))
+    → two ≡ one ++ more_new_text (length new)
+    → two ≡ old ++ (flat_map f (take most_listed (list_of new)) ++ more_new_text (length (list_of new)))
 listed_text f new listed old one two few first more =
     more
-    ∙ ap (λ (xs : List ℕ). xs ++ more_text (length new))
+    ∙ ap (λ (xs : List ℕ). xs ++ more_new_text (length new))
     (first
     ∙ ap (λ (ys : List (Bor Standing)). old ++ flat_map f (list_of ys)) few
     ∙ ap (λ (ys : List Standing). old ++ flat_map f ys) (sym (take-map (λ (s : Bor Standing). s.now) most_listed new)))
-    ∙ append_assoc old (flat_map f (take most_listed (list_of new))) (more_text (length new))
-    ∙ ap (λ (n : ℕ). old ++ (flat_map f (take most_listed (list_of new)) ++ more_text n))
+    ∙ append_assoc old (flat_map f (take most_listed (list_of new))) (more_new_text (length new))
+    ∙ ap (λ (n : ℕ). old ++ (flat_map f (take most_listed (list_of new)) ++ more_new_text n))
     (sym (length-map new (λ (s : Bor Standing). s.now)))
 
-pub no_list : (styles : List Style) (records : List Record) (source : List ℕ) → list_text styles records source [] ≡ []
-unfolding list_text
+pub no_list : (styles : List Style) (records : List Record) (source : List ℕ)
+    → touching_list_text styles records source [] ≡ []
+unfolding touching_list_text
 no_list styles records source = refl

@@ -13,7 +13,7 @@ use Rattle.journal_format.specs.declared.posting.Posting.{Posting}
 use Rattle.journal_format.specs.declared.txn.Txn.{Txn}
 use Rattle.journal_format.specs.declared.txn.Located.{Located}
 use Rattle.journal_format.specs.Pieces.{AreRemarks, ArePostings, IsEntry, IsDirective, IsSkipped, IsUnclosed, IsLed}
-use Rattle.journal_format.specs.Pieces.{IsAlone, ArePieces, MakeUp, Reads}
+use Rattle.journal_format.specs.Pieces.{IsAlone, ArePieces, MakeUpList, Reads}
 use Rattle.journal_format.specs.Pieces.AreRemarks.{none as no_remark, more as a_remark}
 use Rattle.journal_format.specs.Pieces.ArePostings.{none as no_posting, more as a_posting}
 use Rattle.journal_format.specs.Pieces.IsLed.{entry, directive, skipped}
@@ -211,7 +211,7 @@ pieces_pass styles (remark {ls = ls} {list = list} line h i r) =
     (Passes-append 1 ls (line ∷ []) (map (λ (x : Located). x.line) list) [] (pieces_pass styles h)
     (plain_one (1 + length ls) line kind.Indented i refl refl))
 
-all_pieces : (styles : List Style) {ls : List (List ℕ)} {list : List Located} → MakeUp styles ls list
+all_pieces : (styles : List Style) {ls : List (List ℕ)} {list : List Located} → MakeUpList styles ls list
     → heads_from false (enumerate_from 1 ls) ≡ map (λ (x : Located). x.line) list
 all_pieces styles (whole {last = last} {ls = ls} {list = list} h) =
     ap (λ (zs : List (List ℕ)). heads_from false (enumerate_from 1 zs)) (sym (append-nil ls))

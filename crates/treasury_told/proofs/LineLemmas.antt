@@ -5,7 +5,7 @@ use Rattle.std.proofs.Common.{Option, Some, None}
 use Rattle.std.specs.Prelude.{nat_eq, slice_get, if◌then◌else◌}
 use Rattle.std.specs.List.{enumerate_from}
 use Rattle.std.proofs.lemmas.Bool.Decides.{nat_tests}
-use Rattle.treasury_told.specs.Numbered.{numbered}
+use Rattle.treasury_told.specs.Numbered.{item_of_number}
 
 -- the first one with a number
 abbrev pub with_number : {X : Type 0} → ℕ → List (ℕ × X) → Option X
@@ -29,7 +29,7 @@ within_all n k (suc j) (x ∷ xs) e =
     ap (λ (t : Bool). if t then Some x else with_number n (enumerate_from (k + 1) xs)) off
     ∙ within_all n (k + 1) j xs (omega (arith, e))
 
-pub from_one : {X : Type 0} (n : ℕ) (xs : List X) → with_number n (enumerate_from 1 xs) ≡ numbered xs n
+pub from_one : {X : Type 0} (n : ℕ) (xs : List X) → with_number n (enumerate_from 1 xs) ≡ item_of_number xs n
 from_one zero xs = behind_all 0 1 xs (omega arith)
 from_one (suc n) xs = within_all (suc n) 1 n xs (omega arith)
 

@@ -38,7 +38,7 @@ use Rattle.book_core.proofs.CommodityLemmas.{over_none}
 use Rattle.journal_format.specs.declared.txn.Located.{Located}
 use Rattle.journal_format.specs.Pieces.{Reads}
 use Rattle.journal_format.specs.Printable.{IsPrintable}
-use Rattle.journal_balance.specs.Legs.{legs_of}
+use Rattle.journal_balance.specs.Legs.{balanced_entry}
 use Rattle.journal_balance.proofs.DeclaredLemmas.{entry_declared}
 use Rattle.treasury_state.specs.declared.record.Record.{Record}
 use Rattle.treasury_state.specs.Federation.{Federation, records_of, lock_of, entries, is_locked}
@@ -52,8 +52,9 @@ use Rattle.treasury_core.specs.Step.{records_in_file, file_refusal, enter_refusa
 use Rattle.treasury_told.specs.declared.explain.standing.Standing.{Standing}
 use Rattle.treasury_told.specs.Standing.{located_of, txns_of, goes_by, entry_in, is_nobody, AreStanding}
 use Rattle.treasury_told.specs.Passing.{entries_after, IsPassedText, IsPassedAt, entry_list, adds}
-use Rattle.treasury_told.specs.Passing.{sum_at, with_leg, counted, AreTurnovers, IsFirstOver, entries_before}
-use Rattle.treasury_told.specs.Passing.{AreWithin, IsPlaced}
+use Rattle.treasury_told.specs.Passing.{turnover_at, turnovers_with_leg, capped_turnover, AreTurnovers, IsFirstOver}
+use Rattle.treasury_told.specs.Passing.{entries_before}
+use Rattle.treasury_told.specs.Passing.{AreWithin, IsPlaceOfPassing}
 use Rattle.treasury_told.proofs.RefusedLemmas.{record_of, first_record, entry_there}
 
 -- ---- a refusal by the limit is one of the turnover
@@ -69,7 +70,7 @@ text_fault line (Err cause) o never h = absurd cc
 even_limit : (styles : List Style) (file : List Located) → unbalanced styles file ≡ Some (Plain Limit) → ⊥
 even_limit styles [] h = absurd cc
 even_limit styles (x ∷ xs) h =
-    text_fault x.line (legs_of styles x.txn) (unbalanced styles xs) (even_limit styles xs) h
+    text_fault x.line (balanced_entry styles x.txn) (unbalanced styles xs) (even_limit styles xs) h
 
 barred_limit : (lock : Option Day) (r : Record) → barred lock r ≡ Some (Plain Limit) → ⊥
 barred_limit lock r h =
@@ -180,7 +181,7 @@ new_taken styles records before (s ∷ rest) now (suc i) standing even kept =
     nobody : is_nobody s.holder ≡ not (is_held now s.mark)
     nobody = standing.0.new ∙ ap not (sym (kept s.mark))
 
-    by_entry : (e : Entry) → legs_of styles s.txn ≡ Ok e
+    by_entry : (e : Entry) → balanced_entry styles s.txn ≡ Ok e
         → ((next : List Record) → IsKept records (before ++ s ∷ []) next → entries (new_in next after) ≡ others)
         → entries (new_in now (records_from styles (txns_of before)
         (record { line = s.line; txn = s.txn } ∷ take i (located_of rest)))) ≡ adds styles s ++ others
@@ -194,13 +195,13 @@ new_taken styles records before (s ∷ rest) now (suc i) standing even kept =
             ≡ adds styles s ++ others
         by_held true there =
             more now (kept_old records before now s there kept)
-            ∙ sym (ap (λ (t : Bool). (if t then entry_list (entry_in (legs_of styles s.txn)) else []) ++ others)
+            ∙ sym (ap (λ (t : Bool). (if t then entry_list (entry_in (balanced_entry styles s.txn)) else []) ++ others)
             (nobody ∙ ap not there))
         by_held false none =
             ap (λ (es : List Entry). e ∷ es)
             (more (now ++ record_of s e ∷ []) (kept_new records before now s e kept))
             ∙ sym (ap (λ (r : Result Entry Cause). entry_list (entry_in r) ++ others) legs)
-            ∙ sym (ap (λ (t : Bool). (if t then entry_list (entry_in (legs_of styles s.txn)) else []) ++ others)
+            ∙ sym (ap (λ (t : Bool). (if t then entry_list (entry_in (balanced_entry styles s.txn)) else []) ++ others)
             (nobody ∙ ap not none))
 
 after_before : (styles : List Style) (records : List Record) (found : List Standing) (i : ℕ)
@@ -255,9 +256,9 @@ records_known styles (r ∷ rs) h = (record_known styles r h.0, records_known st
 
 adds_known : (styles : List Style) (s : Standing) → IsPrintable styles s.txn
     → AllByRecursion (IsKnownEntry (length styles)) (adds styles s)
-adds_known styles s h = by_new (is_nobody s.holder) (legs_of styles s.txn) refl
+adds_known styles s h = by_new (is_nobody s.holder) (balanced_entry styles s.txn) refl
   where
-    by_new : (t : Bool) (r : Result Entry Cause) → legs_of styles s.txn ≡ r
+    by_new : (t : Bool) (r : Result Entry Cause) → balanced_entry styles s.txn ≡ r
         → AllByRecursion (IsKnownEntry (length styles)) (if t then entry_list (entry_in r) else [])
     by_new true (Ok e) is = (
       all_weaker (λ (x : Leg). IsDeclared styles x.unit x.qty) (IsKnown (length styles)) e.legs (λ x k. k.known)
@@ -298,7 +299,8 @@ passing_in : (f : Federation) (name journal : List ℕ) (found : List Standing) 
     → AreStanding f.styles (records_of f name) [] found
     → AllByRecursion (λ (s : Standing). IsPrintable f.styles s.txn) found
     → ((list : List Located) → Reads f.styles journal list → located_of found ≡ list)
-    → IsPlaced f.styles (records_of f name) found o → IsPassedText f name journal → PlacedIn f name journal found o
+    → IsPlaceOfPassing f.styles (records_of f name) found o → IsPassedText f name journal
+    → PlacedIn f name journal found o
 passing_in f name journal found None good reads standing printable only within is =
     let records = records_of f name in
     let file = located_of found in
@@ -337,7 +339,7 @@ pub passing_found : (f : Federation) (name journal : List ℕ) (styles : List St
     → IsGoodState f → Reads styles journal (located_of found)
     → AreStanding styles records [] found → AllByRecursion (λ (s : Standing). IsPrintable styles s.txn) found
     → ((list : List Located) → Reads styles journal list → located_of found ≡ list) → slice ≡ found
-    → IsPlaced styles records slice o → IsPassedText f name journal → PlacedIn f name journal found o
+    → IsPlaceOfPassing styles records slice o → IsPassedText f name journal → PlacedIn f name journal found o
 passing_found f name journal styles records found slice o s r good reads standing printable only same placed is =
     passing_in f name journal found o
     (of_branch (λ (rs : List Record). AllByRecursion (IsGoodRecord f.styles) rs) f.styles f.branches name tt
@@ -347,9 +349,9 @@ passing_found f name journal styles records found slice o s r good reads standin
     (subst (λ (x : List Style). AreStanding x records [] found) s standing))
     (subst (λ (x : List Style). AllByRecursion (λ (y : Standing). IsPrintable x y.txn) found) s printable)
     (λ list h. only list (subst (λ (x : List Style). Reads x journal list) (sym s) h))
-    (subst (λ (x : List Record). IsPlaced f.styles x found o) r
-    (subst (λ (x : List Style). IsPlaced x records found o) s
-    (subst (λ (x : List Standing). IsPlaced styles records x o) same placed)))
+    (subst (λ (x : List Record). IsPlaceOfPassing f.styles x found o) r
+    (subst (λ (x : List Style). IsPlaceOfPassing x records found o) s
+    (subst (λ (x : List Standing). IsPlaceOfPassing styles records x o) same placed)))
     is
 
 -- ---- how it is looked for
@@ -359,73 +361,76 @@ room_of f name records r good =
     subst (λ (rs : List Record). HasRoom (entries rs)) (sym r) (good_book f name good).within.small
 
 -- what stops counting far enough is counted as what does not
-counted_top : (a top : ℕ) → most_turnover + 1 ≤ top → counted (min a top) ≡ counted a
+counted_top : (a top : ℕ) → most_turnover + 1 ≤ top → capped_turnover (min a top) ≡ capped_turnover a
 counted_top a top h = omega (arith, h)
 
-counted_more : (a b m : ℕ) → counted a ≡ counted b → counted (a + m) ≡ counted (b + m)
+counted_more : (a b m : ℕ) → capped_turnover a ≡ capped_turnover b → capped_turnover (a + m) ≡ capped_turnover (b + m)
 counted_more a b m h = omega (arith, h)
 
-within_counted : (a b : ℕ) → counted a ≡ counted b → a ≤ most_turnover → b ≤ most_turnover
+within_counted : (a b : ℕ) → capped_turnover a ≡ capped_turnover b → a ≤ most_turnover → b ≤ most_turnover
 within_counted a b h k = omega (arith, h, k)
 
-over_counted : (a b : ℕ) → counted a ≡ counted b → most_turnover < a → most_turnover < b
+over_counted : (a b : ℕ) → capped_turnover a ≡ capped_turnover b → most_turnover < a → most_turnover < b
 over_counted a b h k = omega (arith, h, k)
 
 -- a leg of a commodity that the table has
 leg_put : (old new : List ℕ) (x : Leg) (top : ℕ) (u : Commodity) → most_turnover + 1 ≤ top
-    → new ≡ set old x.unit.0 (min (sum_at old x.unit + unsigned_abs x.qty) top) → x.unit.0 < length old
-    → counted (sum_at new u) ≡ counted (sum_at old u + (if nat_eq x.unit.0 u.0 then unsigned_abs x.qty else 0))
+    → new ≡ set old x.unit.0 (min (turnover_at old x.unit + unsigned_abs x.qty) top) → x.unit.0 < length old
+    → capped_turnover (turnover_at new u) ≡ capped_turnover
+    (turnover_at old u + (if nat_eq x.unit.0 u.0 then unsigned_abs x.qty else 0))
 leg_put old new x top u high put known = by_unit (nat_eq x.unit.0 u.0) refl
   where
     sum : ℕ
-    sum = min (sum_at old x.unit + unsigned_abs x.qty) top
+    sum = min (turnover_at old x.unit + unsigned_abs x.qty) top
 
     by_unit : (t : Bool) → nat_eq x.unit.0 u.0 ≡ t
-        → counted (sum_at new u) ≡ counted (sum_at old u + (if t then unsigned_abs x.qty else 0))
+        → capped_turnover (turnover_at new u) ≡ capped_turnover
+        (turnover_at old u + (if t then unsigned_abs x.qty else 0))
     by_unit true e =
         let own : u.0 ≡ x.unit.0 = grind (arith, nat_tests) in
-        ap (λ (xs : List ℕ). counted (get_or xs u.0 0)) put
-        ∙ ap (λ (n : ℕ). counted (get_or (set old x.unit.0 sum) n 0)) own
-        ∙ ap counted (get_or-set_same old x.unit.0 sum 0 known)
-        ∙ counted_top (sum_at old x.unit + unsigned_abs x.qty) top high
-        ∙ ap (λ (n : ℕ). counted (get_or old n 0 + unsigned_abs x.qty)) (sym own)
+        ap (λ (xs : List ℕ). capped_turnover (get_or xs u.0 0)) put
+        ∙ ap (λ (n : ℕ). capped_turnover (get_or (set old x.unit.0 sum) n 0)) own
+        ∙ ap capped_turnover (get_or-set_same old x.unit.0 sum 0 known)
+        ∙ counted_top (turnover_at old x.unit + unsigned_abs x.qty) top high
+        ∙ ap (λ (n : ℕ). capped_turnover (get_or old n 0 + unsigned_abs x.qty)) (sym own)
     by_unit false e =
         let other : u.0 ≢ x.unit.0 = grind (arith, nat_tests) in
-        ap (λ (xs : List ℕ). counted (get_or xs u.0 0)) put
-        ∙ ap counted (get_or-set_other old x.unit.0 u.0 sum 0 other)
-        ∙ ap counted (let k : sum_at old u ≡ sum_at old u + 0 = omega arith in k)
+        ap (λ (xs : List ℕ). capped_turnover (get_or xs u.0 0)) put
+        ∙ ap capped_turnover (get_or-set_other old x.unit.0 u.0 sum 0 other)
+        ∙ ap capped_turnover (let k : turnover_at old u ≡ turnover_at old u + 0 = omega arith in k)
 
 -- one of a commodity that it does not have
 leg_left : (table : List ℕ) (x : Leg) (u : Commodity) → nat_lt x.unit.0 (length table) ≡ false → u.0 < length table
-    → counted (sum_at table u) ≡ counted (sum_at table u + (if nat_eq x.unit.0 u.0 then unsigned_abs x.qty else 0))
+    → capped_turnover (turnover_at table u) ≡ capped_turnover
+    (turnover_at table u + (if nat_eq x.unit.0 u.0 then unsigned_abs x.qty else 0))
 leg_left table x u high known =
     let other : nat_eq x.unit.0 u.0 ≡ false = grind (arith, nat_tests) in
-    ap counted (let k : sum_at table u ≡ sum_at table u + 0 = omega arith in k)
-    ∙ sym (ap (λ (t : Bool). counted (sum_at table u + (if t then unsigned_abs x.qty else 0))) other)
+    ap capped_turnover (let k : turnover_at table u ≡ turnover_at table u + 0 = omega arith in k)
+    ∙ sym (ap (λ (t : Bool). capped_turnover (turnover_at table u + (if t then unsigned_abs x.qty else 0))) other)
 
 -- any leg
-pub with_leg_length : (table : List ℕ) (x : Leg) → length (with_leg table x) ≡ length table
-unfolding with_leg
+pub with_leg_length : (table : List ℕ) (x : Leg) → length (turnovers_with_leg table x) ≡ length table
+unfolding turnovers_with_leg
 with_leg_length table x = by_test (nat_lt x.unit.0 (length table))
   where
     by_test : (t : Bool)
-        → length (if t then set table x.unit.0 (min (sum_at table x.unit + unsigned_abs x.qty) (2 ^ 64 - 1)) else table)
-        ≡ length table
-    by_test true = length-set table x.unit.0 (min (sum_at table x.unit + unsigned_abs x.qty) (2 ^ 64 - 1))
+        → length (if t then set table x.unit.0 (min (turnover_at table x.unit + unsigned_abs x.qty) (2 ^ 64 - 1)) else
+        table) ≡ length table
+    by_test true = length-set table x.unit.0 (min (turnover_at table x.unit + unsigned_abs x.qty) (2 ^ 64 - 1))
     by_test false = refl
 
 pub with_leg_sum : (table : List ℕ) (x : Leg) (u : Commodity) → u.0 < length table
-    → counted (sum_at (with_leg table x) u)
-    ≡ counted (sum_at table u + (if nat_eq x.unit.0 u.0 then unsigned_abs x.qty else 0))
-unfolding with_leg
+    → capped_turnover (turnover_at (turnovers_with_leg table x) u)
+    ≡ capped_turnover (turnover_at table u + (if nat_eq x.unit.0 u.0 then unsigned_abs x.qty else 0))
+unfolding turnovers_with_leg
 with_leg_sum table x u known = by_test (nat_lt x.unit.0 (length table)) refl
   where
     sum : ℕ
-    sum = min (sum_at table x.unit + unsigned_abs x.qty) (2 ^ 64 - 1)
+    sum = min (turnover_at table x.unit + unsigned_abs x.qty) (2 ^ 64 - 1)
 
     by_test : (t : Bool) → nat_lt x.unit.0 (length table) ≡ t
-        → counted (sum_at (if t then set table x.unit.0 sum else table) u)
-        ≡ counted (sum_at table u + (if nat_eq x.unit.0 u.0 then unsigned_abs x.qty else 0))
+        → capped_turnover (turnover_at (if t then set table x.unit.0 sum else table) u)
+        ≡ capped_turnover (turnover_at table u + (if nat_eq x.unit.0 u.0 then unsigned_abs x.qty else 0))
     by_test true e =
         leg_put table (set table x.unit.0 sum) x (2 ^ 64 - 1) u (omega arith) refl
         (let h : x.unit.0 < length table = grind (arith, nat_tests) in h)
@@ -433,30 +438,33 @@ with_leg_sum table x u known = by_test (nat_lt x.unit.0 (length table)) refl
 
 -- with what the legs after it move
 pub leg_next : (new old : ℕ) (u : Commodity) (legs : List Leg) (i : ℕ) (x : Leg) (all : ℕ) → i < length legs
-    → x ≡ get_or legs i x → counted new ≡ counted (old + (if nat_eq x.unit.0 u.0 then unsigned_abs x.qty else 0))
-    → counted (old + moved u (drop i legs)) ≡ all → counted (new + moved u (drop (i + 1) legs)) ≡ all
+    → x ≡ get_or legs i x → capped_turnover new ≡ capped_turnover
+    (old + (if nat_eq x.unit.0 u.0 then unsigned_abs x.qty else 0))
+    → capped_turnover (old + moved u (drop i legs)) ≡ all → capped_turnover (new + moved u (drop (i + 1) legs)) ≡ all
 leg_next new old u legs i x all low is more before =
     let rest = moved u (drop (i + 1) legs) in
     let own : ℕ = if nat_eq x.unit.0 u.0 then unsigned_abs x.qty else 0 in
     counted_more new (old + own) rest more
-    ∙ ap counted (let k : (old + own) + rest ≡ old + (own + rest) = omega arith in k)
-    ∙ sym (ap (λ (xs : List Leg). counted (old + moved u xs)) (drop_at legs i x low is))
+    ∙ ap capped_turnover (let k : (old + own) + rest ≡ old + (own + rest) = omega arith in k)
+    ∙ sym (ap (λ (xs : List Leg). capped_turnover (old + moved u xs)) (drop_at legs i x low is))
     ∙ before
 
 -- a table with the legs of one entry more
 pub with_legs : (old new : List ℕ) (b : List Entry) (e : Entry) (legs : List Leg) → length new ≡ length old
-    → ((u : Commodity) → u.0 < length old → counted (sum_at new u) ≡ counted (sum_at old u + moved u legs))
+    → ((u : Commodity) → u.0 < length old
+    → capped_turnover (turnover_at new u) ≡ capped_turnover (turnover_at old u + moved u legs))
     → legs ≡ e.legs → AreTurnovers old b → AreTurnovers new (b ++ e ∷ [])
 with_legs old new b e legs long more same before = λ u h.
     let k = subst (λ (n : ℕ). u.0 < n) long h in
     more u k
-    ∙ counted_more (sum_at old u) (turnover u b) (moved u legs) (before u k)
-    ∙ ap (λ (xs : List Leg). counted (turnover u b + moved u xs)) (same ∙ sym (append-nil e.legs))
-    ∙ sym (ap counted (turnover-append u b (e ∷ [])))
+    ∙ counted_more (turnover_at old u) (turnover u b) (moved u legs) (before u k)
+    ∙ ap (λ (xs : List Leg). capped_turnover (turnover u b + moved u xs)) (same ∙ sym (append-nil e.legs))
+    ∙ sym (ap capped_turnover (turnover-append u b (e ∷ [])))
 
 pub record_more : (old new : List ℕ) (rs : List Record) (i : ℕ) (r : Record) (legs : List Leg) → i < length rs
     → r ≡ get_or rs i r → length new ≡ length old
-    → ((u : Commodity) → u.0 < length old → counted (sum_at new u) ≡ counted (sum_at old u + moved u legs))
+    → ((u : Commodity) → u.0 < length old
+    → capped_turnover (turnover_at new u) ≡ capped_turnover (turnover_at old u + moved u legs))
     → legs ≡ r.entry.legs → AreTurnovers old (entries (take i rs)) → AreTurnovers new (entries (take (i + 1) rs))
 record_more old new rs i r legs low is long more same before =
     subst (AreTurnovers new)
@@ -480,14 +488,14 @@ pub all_within : (styles : List Style) (table : List ℕ) (b : List Entry) (o : 
 all_within styles table b o long sums first none = λ u h.
     let low = subst (IsFirstOver table) none first in
     let k = subst (λ (n : ℕ). u.0 < n) (sym long) h in
-    within_counted (sum_at table u) (turnover u b) (sums u k) (low u k)
+    within_counted (turnover_at table u) (turnover u b) (sums u k) (low u k)
 
 pub placed_at : (styles : List Style) (records : List Record) (list : List Standing) (table : List ℕ) (i : ℕ)
     (unit : Commodity) (o : Option Commodity) (s : Standing) → i < length list → s ≡ get_or list i s
     → length table ≡ length styles
     → AreTurnovers table (entries_before styles records (take i list) ++ adds styles s) → IsFirstOver table o
     → o ≡ Some unit → AreWithin styles (entries_before styles records (take i list))
-    → IsPlaced styles records list (Some (i, unit))
+    → IsPlaceOfPassing styles records list (Some (i, unit))
 placed_at styles records list table i unit o s low is long sums first some within =
     let over = subst (IsFirstOver table) some first in
     let here : take (i + 1) list ≡ take (suc i) list = ap (λ (k : ℕ). take k list)
@@ -499,8 +507,8 @@ placed_at styles records list table i unit o s low is long sums first some withi
       (
         subst (λ (n : ℕ). unit.0 < n) long over.0,
         (
-          over_counted (sum_at table unit) (turnover unit after) (at unit over.0) over.1.0,
-          λ u h. within_counted (sum_at table u) (turnover u after) (at u (below u h over.0)) (over.1.1 u h),
+          over_counted (turnover_at table unit) (turnover unit after) (at unit over.0) over.1.0,
+          λ u h. within_counted (turnover_at table u) (turnover u after) (at u (below u h over.0)) (over.1.1 u h),
         ),
       ),
     )

@@ -19,9 +19,10 @@ use Rattle.book_core.specs.declared.refusal.Refusal.TheVariants.{Plain, Text}
 use Rattle.journal_format.specs.declared.txn.Txn.{Txn}
 use Rattle.journal_format.specs.declared.txn.Located.{Located}
 use Rattle.journal_format.specs.CanonicalText.{body_text, marked}
-use Rattle.journal_balance.specs.Legs.{legs_of, entry_of, unless, balancing_fault}
+use Rattle.journal_balance.specs.Legs.{balanced_entry, entry_of, entry_unless, balancing_fault}
 use Rattle.treasury_state.specs.declared.record.Record.{Record}
-use Rattle.treasury_state.specs.Mark.{has_mark, is_held, held, HaveOwnMarks, is_repeat, is_product_mark, mark_of}
+use Rattle.treasury_state.specs.Mark.{has_mark, is_held, held, HaveOwnMarks, is_repeat, is_product_mark}
+use Rattle.treasury_state.specs.Mark.{transaction_mark}
 use Rattle.treasury_state.specs.Federation.{is_locked}
 use Rattle.treasury_state.specs.Transfer.{is_transit}
 use Rattle.treasury_core.specs.Step.{fault_on, unbalanced, recorded, recorded_in, records_from, number_in, barred}
@@ -34,7 +35,7 @@ use Rattle.treasury_told.specs.declared.explain.standing.Standing.{Standing}
 use Rattle.treasury_told.specs.declared.explain.standing.Holder.{Holder}
 use Rattle.treasury_told.specs.declared.explain.standing.Holder.TheVariants as at
 use Rattle.treasury_told.specs.Standing.{located_of, txns_of, goes_by, holder_at, is_nobody, IsStanding, AreStanding}
-use Rattle.treasury_told.specs.AtFault.{holder_of, is_other, transit_in, is_barred, cause_of, IsRefusedAt}
+use Rattle.treasury_told.specs.AtFault.{holder_of, is_other_text, transit_in, is_barred, cause_of_bar, IsRefusedAt}
 
 -- ---- the text that has a mark
 abbrev record_body : List Style → Record → List ℕ
@@ -279,7 +280,7 @@ abbrev pub record_of : Standing → Entry → Record
 record_of s e = record { mark = s.mark; txn = marked s.txn (Some s.mark); entry = e }
 
 abbrev refused_as : Bar → Option Refusal
-refused_as bar = Some (Plain (cause_of bar))
+refused_as bar = Some (Plain (cause_of_bar bar))
 
 -- what becomes of a transaction: it passes, or it is refused
 data Judged (styles : List Style) (lock : Option Day) (records : List Record) (all before : List Standing)
@@ -297,7 +298,7 @@ other_of None text = false
 other_of (Some other) text = not (bytes_eq other text)
 
 other_text : (styles : List Style) (t : Txn) (o : Option Txn)
-    → is_other styles t o ≡ other_of (option_map (body_text styles) o) (body_text styles t)
+    → is_other_text styles t o ≡ other_of (option_map (body_text styles) o) (body_text styles t)
 other_text styles t None = refl
 other_text styles t (Some u) = refl
 
@@ -306,13 +307,13 @@ any_transit None = refl
 any_transit (Some x) = refl
 
 standing_judged : (styles : List Style) (lock : Option Day) (records : List Record) (before rest : List Standing)
-    (now : List Record) (s : Standing) (e : Entry) → IsStanding styles records before s → legs_of styles s.txn ≡ Ok e
-    → Follows styles records before now
+    (now : List Record) (s : Standing) (e : Entry) → IsStanding styles records before s
+    → balanced_entry styles s.txn ≡ Ok e → Follows styles records before now
     → Judged styles lock records (before ++ rest) before now s (record_of s e)
 standing_judged styles lock records before rest now s e is legs follows =
     by_text (text_held styles records before s.mark) refl
   where
-    other : is_other styles s.txn (holder_of records (before ++ rest) s.holder)
+    other : is_other_text styles s.txn (holder_of records (before ++ rest) s.holder)
         ≡ other_of (text_held styles records before s.mark) (body_text styles s.txn)
     other = other_text styles s.txn (holder_of records (before ++ rest) s.holder)
         ∙ ap (λ (o : Option (List ℕ)). other_of o (body_text styles s.txn))
@@ -352,7 +353,7 @@ standing_judged styles lock records before rest now s e is legs follows =
             not_barred by.Clash = other
                 ∙ ap (λ (o : Option (List ℕ)). other_of o (body_text styles s.txn)) h ∙ ap not same
             not_barred by.Mark = ap (λ (t : Bool). t && is_product_mark s.mark) off
-            not_barred by.Account = ap (λ (t : Bool). t && is_some (transit_in (legs_of styles s.txn))) off
+            not_barred by.Account = ap (λ (t : Bool). t && is_some (transit_in (balanced_entry styles s.txn))) off
             not_barred by.Locked = ap (λ (t : Bool). t && is_locked lock s.txn.day) off
         by_same false same = stops by.Clash
             (λ rs. ap (λ (t : Bool). if t then refused_in styles lock now rs
@@ -379,7 +380,7 @@ standing_judged styles lock records before rest now s e is legs follows =
             ∙ ap (λ (t : Bool). option_or (if t then refused_as by.Clash else barred lock (record_of s e))
             (refused_in styles lock (now ++ record_of s e ∷ []) rs)) (holds ∙ absent)
 
-        transit : is_some (transit_in (legs_of styles s.txn)) ≡ list_any is_transit e.legs
+        transit : is_some (transit_in (balanced_entry styles s.txn)) ≡ list_any is_transit e.legs
         transit = ap (λ (r : Result Entry Cause). is_some (transit_in r)) legs
             ∙ any_transit (find is_transit e.legs) ∙ sym (any_find is_transit e.legs)
 
@@ -404,7 +405,7 @@ standing_judged styles lock records before rest now s e is legs follows =
             ∙ ap (λ (t : Bool). option_or (if t then refused_as by.Account
             else if is_locked lock e.day then refused_as by.Locked else None)
             (refused_in styles lock (now ++ record_of s e ∷ []) rs)) y)
-            (ap (λ (t : Bool). t && is_some (transit_in (legs_of styles s.txn))) on ∙ transit ∙ y)
+            (ap (λ (t : Bool). t && is_some (transit_in (balanced_entry styles s.txn))) on ∙ transit ∙ y)
         by_bars false false true x y z = stops by.Locked
             (λ rs. goes_on rs
             ∙ ap (λ (t : Bool). option_or (if t then refused_as by.Mark
@@ -435,7 +436,7 @@ standing_judged styles lock records before rest now s e is legs follows =
             not_barred by.Clash = other ∙ ap (λ (o : Option (List ℕ)). other_of o (body_text styles s.txn)) h
             not_barred by.Mark = ap (λ (t : Bool). t && is_product_mark s.mark) on ∙ x
             not_barred by.Account =
-                ap (λ (t : Bool). t && is_some (transit_in (legs_of styles s.txn))) on ∙ transit ∙ y
+                ap (λ (t : Bool). t && is_some (transit_in (balanced_entry styles s.txn))) on ∙ transit ∙ y
             not_barred by.Locked = ap (λ (t : Bool). t && is_locked lock s.txn.day) on ∙ day ∙ z
 
 -- ---- all of them are walked through
@@ -467,13 +468,13 @@ record Walked (styles : List Style) (lock : Option Day) (records : List Record) 
 
 -- a file that begins with a transaction that has an entry
 pub first_record : (styles : List Style) (before : List Standing) (s : Standing) (e : Entry) (xs : List Located)
-    → s.mark ≡ mark_of styles s.txn (number_in styles (txns_of before) s.txn) s.txn.mark
-    → legs_of styles s.txn ≡ Ok e
+    → s.mark ≡ transaction_mark styles s.txn (number_in styles (txns_of before) s.txn) s.txn.mark
+    → balanced_entry styles s.txn ≡ Ok e
     → records_from styles (txns_of before) (record { line = s.line; txn = s.txn } ∷ xs)
     ≡ record_of s e ∷ records_from styles (txns_of (before ++ s ∷ [])) xs
 first_record styles before s e xs mark legs =
     ap (λ (r : Result Entry Cause). recorded s.txn
-    (mark_of styles s.txn (number_in styles (txns_of before) s.txn) s.txn.mark) r
+    (transaction_mark styles s.txn (number_in styles (txns_of before) s.txn) s.txn.mark) r
     ++ records_from styles (txns_of before ++ s.txn ∷ []) xs) legs
     ∙ ap (λ (m : List ℕ). record { mark = m; txn = marked s.txn (Some m); entry = e }
     ∷ records_from styles (txns_of before ++ s.txn ∷ []) xs) (sym mark)
@@ -481,12 +482,12 @@ first_record styles before s e xs mark legs =
     (sym (map-append (λ (x : Standing). x.txn) before (s ∷ [])))
 
 pub entry_there : (styles : List Style) (line : ℕ) (t : Txn) (more : Option Refusal)
-    → option_or (fault_on line (legs_of styles t)) more ≡ None
-    → ((e : Entry) × (legs_of styles t ≡ Ok e)) × (more ≡ None)
-entry_there styles line t more h = by_entry (legs_of styles t) refl h
+    → option_or (fault_on line (balanced_entry styles t)) more ≡ None
+    → ((e : Entry) × (balanced_entry styles t ≡ Ok e)) × (more ≡ None)
+entry_there styles line t more h = by_entry (balanced_entry styles t) refl h
   where
-    by_entry : (r : Result Entry Cause) → legs_of styles t ≡ r → option_or (fault_on line r) more ≡ None
-        → ((e : Entry) × (legs_of styles t ≡ Ok e)) × (more ≡ None)
+    by_entry : (r : Result Entry Cause) → balanced_entry styles t ≡ r → option_or (fault_on line r) more ≡ None
+        → ((e : Entry) × (balanced_entry styles t ≡ Ok e)) × (more ≡ None)
     by_entry (Ok e) is h = ((e, is), h)
     by_entry (Err cause) is h = absurd cc
 
@@ -508,7 +509,7 @@ walked_to_bar styles lock records bar before (s ∷ rest) now standing even foll
         → refused_in styles lock next (records_from styles (txns_of (before ++ s ∷ [])) (located_of rest))
         ≡ refused_as bar
         → Walked styles lock records ((before ++ s ∷ []) ++ rest) (before ++ s ∷ []) rest next bar)
-        → (e : Entry) → legs_of styles s.txn ≡ Ok e
+        → (e : Entry) → balanced_entry styles s.txn ≡ Ok e
         → Judged styles lock records (before ++ s ∷ rest) before now s (record_of s e)
         → Walked styles lock records (before ++ s ∷ rest) before (s ∷ rest) now bar
     by_judged later_walk e legs (stops own is stopped) =
@@ -566,9 +567,9 @@ nothing_yet styles records m = sym (or_none (option_map (record_body styles) (he
 pub refused_place : (styles : List Style) (lock : Option Day) (records : List Record) (bar : Bar)
     (found : List Standing) → AreStanding styles records [] found → HaveOwnMarks records
     → unbalanced styles (located_of found) ≡ None
-    → refused_in styles lock records (records_in_file styles (located_of found)) ≡ Some (Plain (cause_of bar))
+    → refused_in styles lock records (records_in_file styles (located_of found)) ≡ Some (Plain (cause_of_bar bar))
     → (i : ℕ) × (position_from (is_barred styles lock records found bar) 0 found ≡ Some i)
-    × IsRefusedAt styles lock records (located_of found) i (cause_of bar)
+    × IsRefusedAt styles lock records (located_of found) i (cause_of_bar bar)
 refused_place styles lock records bar found standing own even refused =
     let start : Follows styles records [] records = record { own = own; texts = nothing_yet styles records } in
     let walked = walked_to_bar styles lock records bar [] found records standing even start refused in (

@@ -20,7 +20,7 @@ use Rattle.journal_format.specs.declared.txn.Txn.{Txn}
 use Rattle.journal_format.specs.declared.txn.Located.{Located}
 use Rattle.journal_format.specs.CanonicalText.{body_text}
 use Rattle.treasury_state.specs.declared.record.Record.{Record}
-use Rattle.treasury_state.specs.Mark.{has_mark, is_held, mark_of, alike}
+use Rattle.treasury_state.specs.Mark.{has_mark, is_held, transaction_mark, alike}
 use Rattle.treasury_core.specs.Step.{number_in}
 use Rattle.treasury_core.specs.Counted.{count_of, AreCounted}
 use Rattle.treasury_core.proofs.CountLemmas.{Counts}
@@ -61,7 +61,7 @@ nobody_at None (Some i) = refl
 nobody_at None None = refl
 
 pub is_standing : (styles : List Style) (records : List Record) (found : List Standing) (s : Standing)
-    → s.mark ≡ mark_of styles s.txn (number_in styles (txns_of found) s.txn) s.txn.mark
+    → s.mark ≡ transaction_mark styles s.txn (number_in styles (txns_of found) s.txn) s.txn.mark
     → s.holder ≡ holder_at (position_from (has_mark s.mark) 0 records) (position_from (goes_by s.mark) 0 found)
     → IsStanding styles records found s
 is_standing styles records found s mark holder = record {

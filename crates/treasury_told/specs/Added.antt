@@ -6,7 +6,7 @@ use Rattle.journal_format.specs.declared.txn.Located.{Located}
 use Rattle.journal_format.specs.Pieces.{Reads}
 use Rattle.treasury_state.specs.declared.record.Record.{Record}
 use Rattle.treasury_state.specs.Federation.{Federation, records_of}
-use Rattle.treasury_state.specs.Mark.{mark_of, is_held}
+use Rattle.treasury_state.specs.Mark.{transaction_mark, is_held}
 use Rattle.treasury_core.specs.Step.{number_in, recorded_in, records_in_file, new_in, unbalanced}
 use Rattle.treasury_requests.specs.declared.request.Request.{Request}
 use Rattle.treasury_requests.specs.declared.request.Request.TheVariants as req
@@ -16,16 +16,16 @@ use Rattle.treasury_requests.specs.declared.request.Request.TheVariants as req
 abbrev pub added_from : List Style → List Record → List Txn → List Located → List Located
 added_from styles held before [] = []
 added_from styles held before (x ∷ xs) =
-    if is_held held (mark_of styles x.txn (number_in styles before x.txn) x.txn.mark)
+    if is_held held (transaction_mark styles x.txn (number_in styles before x.txn) x.txn.mark)
     then added_from styles held (before ++ x.txn ∷ []) xs
     else x ∷ added_from styles (held ++ recorded_in styles before x.txn) (before ++ x.txn ∷ []) xs
 
 -- the lines of the headers of the new ones of a file
-abbrev pub lines_of : List Located → List ℕ
-lines_of list = map (λ (x : Located). x.line) list
+abbrev pub header_line_numbers : List Located → List ℕ
+header_line_numbers list = map (λ (x : Located). x.line) list
 
 abbrev pub added_lines : List Style → List Record → List Located → List ℕ
-added_lines styles held file = lines_of (added_from styles held [] file)
+added_lines styles held file = header_line_numbers (added_from styles held [] file)
 
 -- these are the transactions of a text, each of them balances, and these records are those that they add
 pub record IsTaken (styles : List Style) (held : List Record) (text : List ℕ) (new : List Record)

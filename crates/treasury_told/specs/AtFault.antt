@@ -15,7 +15,7 @@ use Rattle.journal_format.specs.declared.txn.Txn.{Txn}
 use Rattle.journal_format.specs.declared.txn.Located.{Located}
 use Rattle.journal_format.specs.CanonicalText.{body_text}
 use Rattle.journal_format.specs.Printable.{IsPrintable}
-use Rattle.journal_balance.specs.Legs.{legs_of}
+use Rattle.journal_balance.specs.Legs.{balanced_entry}
 use Rattle.treasury_state.specs.declared.record.Record.{Record}
 use Rattle.treasury_state.specs.Mark.{is_product_mark}
 use Rattle.treasury_state.specs.Federation.{is_locked}
@@ -35,9 +35,9 @@ holder_of records found (at.Record place) = option_map (λ (r : Record). r.txn) 
 holder_of records found (at.Earlier place) = option_map (λ (s : Standing). s.txn) (slice_get found place)
 
 -- it has another canonical text
-abbrev pub is_other : List Style → Txn → Option Txn → Bool
-is_other styles t None = false
-is_other styles t (Some held) = not (bytes_eq (body_text styles held) (body_text styles t))
+abbrev pub is_other_text : List Style → Txn → Option Txn → Bool
+is_other_text styles t None = false
+is_other_text styles t (Some held) = not (bytes_eq (body_text styles held) (body_text styles t))
 
 -- Records and transactions of a text are printable, as those of a branch and of a text that is read are.
 abbrev pub ArePrintable : List Style → List Record → List Standing → Type 0
@@ -53,17 +53,18 @@ transit_in (Err cause) = None
 -- a transaction of a text is refused so, where those before it were taken: its mark is held by another text; or it is
 -- new, and its mark is one of the treasury's own, a leg is on an account of transfers, or its day is locked
 abbrev pub is_barred : List Style → Option Day → List Record → List Standing → Bar → Standing → Bool
-is_barred styles lock records found by.Clash s = is_other styles s.txn (holder_of records found s.holder)
+is_barred styles lock records found by.Clash s = is_other_text styles s.txn (holder_of records found s.holder)
 is_barred styles lock records found by.Mark s = is_nobody s.holder && is_product_mark s.mark
-is_barred styles lock records found by.Account s = is_nobody s.holder && is_some (transit_in (legs_of styles s.txn))
+is_barred styles lock records found by.Account s =
+    is_nobody s.holder && is_some (transit_in (balanced_entry styles s.txn))
 is_barred styles lock records found by.Locked s = is_nobody s.holder && is_locked lock s.txn.day
 
 -- the refusal by which it is
-abbrev pub cause_of : Bar → Cause
-cause_of by.Clash = MarkClash
-cause_of by.Mark = ReservedMark
-cause_of by.Account = ReservedAccount
-cause_of by.Locked = Locked
+abbrev pub cause_of_bar : Bar → Cause
+cause_of_bar by.Clash = MarkClash
+cause_of_bar by.Mark = ReservedMark
+cause_of_bar by.Account = ReservedAccount
+cause_of_bar by.Locked = Locked
 
 -- a command takes the transactions of a file before a place, and refuses the one at that place with a cause
 pub record IsRefusedAt (styles : List Style) (lock : Option Day) (records : List Record) (file : List Located)

@@ -27,7 +27,7 @@ use Rattle.journal_lines.specs.declared.header.Status.TheVariants.{Cleared, Pend
 use Rattle.journal_format.specs.declared.txn.Txn.{Txn}
 use Rattle.journal_format.specs.Fault.{IsFirstFault}
 use Rattle.journal_format.specs.Pieces.{Reads}
-use Rattle.journal_balance.specs.Legs.{legs_of}
+use Rattle.journal_balance.specs.Legs.{balanced_entry}
 use Rattle.treasury_state.specs.declared.record.Record.{Record}
 use Rattle.treasury_state.specs.Federation.{Federation, records_of}
 use Rattle.treasury_requests.specs.declared.request.Request.{Request}
@@ -37,7 +37,7 @@ use Rattle.treasury_told.specs.declared.explain.touching.Watched.{Watched}
 use Rattle.treasury_told.specs.Shown.{named_text}
 use Rattle.treasury_told.specs.Standing.{entry_in, located_of, AreStanding}
 use Rattle.treasury_told.specs.Pieces.{named_amount, header_text, origin_text, sentence_line, source_line}
-use Rattle.treasury_told.specs.Numbered.{numbered, new_of, EntryOf, held, brought, entries_with}
+use Rattle.treasury_told.specs.Numbered.{item_of_number, new_of, EntryOf, held, brought, entries_with}
 
 -- ---- the entry, and what is asserted and found
 
@@ -45,12 +45,12 @@ use Rattle.treasury_told.specs.Numbered.{numbered, new_of, EntryOf, held, brough
 abbrev pub own_entry : List Style → Option EntryOf → Option Entry
 own_entry styles None = None
 own_entry styles (Some (held r)) = Some r.entry
-own_entry styles (Some (brought s)) = entry_in (legs_of styles s.txn)
+own_entry styles (Some (brought s)) = entry_in (balanced_entry styles s.txn)
 
 -- the leg of a number of an entry, if there is one
 abbrev pub leg_of : Option Entry → ℕ → Option Leg
 leg_of None k = None
-leg_of (Some e) k = numbered e.legs k
+leg_of (Some e) k = item_of_number e.legs k
 
 -- the line with the account of a leg
 abbrev pub account_text : Option Leg → List ℕ
@@ -58,22 +58,24 @@ account_text None = []
 account_text (Some x) = named_text (codes "account") x.account
 
 -- the line with the number and the header of an entry
-abbrev pub entry_line : ℕ → Txn → List ℕ → List ℕ
-entry_line n t tail = codes "  entry: " ++ decimal n ++ codes ", " ++ header_text t ++ tail ++ codes "\n"
+abbrev pub entry_header_line : ℕ → Txn → List ℕ → List ℕ
+entry_header_line n t tail = codes "  entry: " ++ decimal n ++ codes ", " ++ header_text t ++ tail ++ codes "\n"
 
 -- the sentence, and where an assertion stands that a branch holds, or that a text would bring
-unfoldable pub held_text : ℕ → ℕ → Record → List ℕ
-held_text n k r = sentence_line [] ClaimFailed ++ account_text (numbered r.entry.legs k) ++ entry_line n r.txn []
+unfoldable pub held_claim_text : ℕ → ℕ → Record → List ℕ
+held_claim_text n k r =
+    sentence_line [] ClaimFailed ++ account_text (item_of_number r.entry.legs k) ++ entry_header_line n r.txn []
 
-unfoldable pub new_text : List Style → List ℕ → List ℕ → ℕ → ℕ → Standing → List ℕ
-new_text styles source text n k s =
+unfoldable pub new_claim_text : List Style → List ℕ → List ℕ → ℕ → ℕ → Standing → List ℕ
+new_claim_text styles source text n k s =
     sentence_line (origin_text source s.line) ClaimFailed ++ source_line text s.line
-    ++ account_text (leg_of (entry_in (legs_of styles s.txn)) k) ++ entry_line n s.txn (codes ", which is new")
+    ++ account_text (leg_of (entry_in (balanced_entry styles s.txn)) k)
+    ++ entry_header_line n s.txn (codes ", which is new")
 
-abbrev pub place_text : List Style → List ℕ → List ℕ → ℕ → ℕ → Option EntryOf → List ℕ
-place_text styles source text n k None = sentence_line [] ClaimFailed
-place_text styles source text n k (Some (held r)) = held_text n k r
-place_text styles source text n k (Some (brought s)) = new_text styles source text n k s
+abbrev pub claim_place_text : List Style → List ℕ → List ℕ → ℕ → ℕ → Option EntryOf → List ℕ
+claim_place_text styles source text n k None = sentence_line [] ClaimFailed
+claim_place_text styles source text n k (Some (held r)) = held_claim_text n k r
+claim_place_text styles source text n k (Some (brought s)) = new_claim_text styles source text n k s
 
 -- what is found less what is asserted
 abbrev pub difference : ℤ → ℤ → ℤ
@@ -99,7 +101,7 @@ reach_on claims k = reach_in (find (λ (x : Placed). nat_eq x.leg k) claims)
 -- the account of the leg of a number, and which accounts its assertion looks at
 abbrev pub watched_of : Entry → ℕ → Option Watched
 watched_of e k =
-    option_map (λ (x : Leg). record { account = x.account; reach = reach_on e.claims k }) (numbered e.legs k)
+    option_map (λ (x : Leg). record { account = x.account; reach = reach_on e.claims k }) (item_of_number e.legs k)
 
 abbrev pub watched_in : Option Entry → ℕ → Option Watched
 watched_in None k = None
@@ -110,18 +112,19 @@ abbrev pub is_seen : Watched → Place → Posted → Bool
 is_seen w end x = reaches w.reach w.account x.leg.account && not (place_le end x.place)
 
 -- entry n has such a leg
-unfoldable pub touches : Watched → Place → ℕ → Entry → Bool
-touches w end n e = list_any (is_seen w end) (posted_legs e.day n 1 e.legs)
+unfoldable pub touches_watched : Watched → Place → ℕ → Entry → Bool
+touches_watched w end n e = list_any (is_seen w end) (posted_legs e.day n 1 e.legs)
 
 abbrev pub touches_in : Watched → Place → ℕ → Option Entry → Bool
 touches_in w end n None = false
-touches_in w end n (Some e) = touches w end n e
+touches_in w end n (Some e) = touches_watched w end n e
 
 -- those of new transactions, numbered from n, whose entries have
 abbrev pub touching : List Style → Watched → Place → ℕ → List Standing → List Standing
 touching styles w end n [] = []
 touching styles w end n (s ∷ rest) =
-    (if touches_in w end n (entry_in (legs_of styles s.txn)) then s ∷ [] else []) ++ touching styles w end (n + 1) rest
+    (if touches_in w end n (entry_in (balanced_entry styles s.txn)) then s ∷ [] else [])
+    ++ touching styles w end (n + 1) rest
 
 -- ---- the held one that a new transaction may be, edited
 
@@ -186,7 +189,7 @@ legs_place_in records (Some e) = legs_place records e
 unfoldable pub touching_text : List Style → List Record → List ℕ → Standing → List ℕ
 touching_text styles records source s =
     codes "  new: " ++ origin_text source s.line ++ header_text s.txn
-    ++ shared_text records (legs_place_in records (entry_in (legs_of styles s.txn))) (header_place records s.txn)
+    ++ shared_text records (legs_place_in records (entry_in (balanced_entry styles s.txn))) (header_place records s.txn)
     ++ codes "\n"
 
 -- ---- all of it
@@ -195,13 +198,13 @@ touching_text styles records source s =
 abbrev pub most_listed : ℕ
 most_listed = 5
 
-abbrev pub more_text : ℕ → List ℕ
-more_text n =
+abbrev pub more_new_text : ℕ → List ℕ
+more_new_text n =
     if nat_lt most_listed n then (codes "  new: and " ++ decimal (n - most_listed) ++ codes " more\n") else []
 
-unfoldable pub list_text : List Style → List Record → List ℕ → List Standing → List ℕ
-list_text styles records source new =
-    flat_map (touching_text styles records source) (take most_listed new) ++ more_text (length new)
+unfoldable pub touching_list_text : List Style → List Record → List ℕ → List Standing → List ℕ
+touching_list_text styles records source new =
+    flat_map (touching_text styles records source) (take most_listed new) ++ more_new_text (length new)
 
 -- the new transactions that touch what the assertion of a leg looks at, before its place
 abbrev pub touching_leg : List Style → List Record → List Standing → Option Watched → Place → List Standing
@@ -212,17 +215,17 @@ touching_leg styles records found (Some w) end = touching styles w end (length r
 unfoldable pub found_text : List Style → List Record → List ℕ → List Standing → Option Entry → Failure → List ℕ
 found_text styles records source found own f =
     amounts_text styles f.unit f.asserted f.found
-    ++ list_text styles records source (touching_leg styles records found (watched_in own f.place.leg) f.place)
+    ++ touching_list_text styles records source (touching_leg styles records found (watched_in own f.place.leg) f.place)
 
 -- what is said of a failure in a branch that has these records: of a text with these transactions
 abbrev pub failure_of : List Style → List Record → List ℕ → List ℕ → List Standing → Failure → Option EntryOf → List ℕ
 failure_of styles records source text found f one =
-    place_text styles source text f.place.entry f.place.leg one
+    claim_place_text styles source text f.place.entry f.place.leg one
     ++ found_text styles records source found (own_entry styles one) f
 
 unfoldable pub failure_text : List Style → List Record → List ℕ → List ℕ → List Standing → Failure → List ℕ
 failure_text styles records source text found f =
-    failure_of styles records source text found f (numbered (entries_with records found) f.place.entry)
+    failure_of styles records source text found f (item_of_number (entries_with records found) f.place.entry)
 
 -- the branch whose assertions a request may break
 abbrev pub judged_branch : Request → List ℕ
@@ -233,9 +236,9 @@ judged_branch (req.Close branch day accounts into) = branch
 judged_branch _ = []
 
 -- the text of a request, if it has one
-abbrev pub journal_of : Request → Option (List ℕ)
-journal_of (req.Import branch journal) = Some journal
-journal_of _ = None
+abbrev pub journal_asked : Request → Option (List ℕ)
+journal_asked (req.Import branch journal) = Some journal
+journal_asked _ = None
 
 abbrev pub text_in : Option (List ℕ) → List ℕ
 text_in None = []
@@ -252,6 +255,6 @@ AreFound styles records (Some text) found =
 pub record TellsFailure (f : Federation) (request : Request) (source : List ℕ) (failure : Failure)
     (old new : List ℕ) : Type 0 where
   pub found : List Standing
-  pub list : AreFound f.styles (records_of f (judged_branch request)) (journal_of request) found
+  pub list : AreFound f.styles (records_of f (judged_branch request)) (journal_asked request) found
   pub text : new ≡ old ++ failure_text f.styles (records_of f (judged_branch request)) source
-      (text_in (journal_of request)) found failure
+      (text_in (journal_asked request)) found failure

@@ -10,14 +10,14 @@ use Rattle.treasury_requests.specs.declared.request.WrittenPart.{WrittenPart}
 use Rattle.treasury_told.specs.Pieces.{named_amount}
 
 -- the ID and the part of a request
-abbrev pub id_of : Request → Option (List ℕ)
-id_of (req.Dispatch id from to day amount account) = Some id
-id_of (req.Receive id branch day account part) = Some id
-id_of _ = None
+abbrev pub id_asked : Request → Option (List ℕ)
+id_asked (req.Dispatch id from to day amount account) = Some id
+id_asked (req.Receive id branch day account part) = Some id
+id_asked _ = None
 
-abbrev pub part_of : Request → Option WrittenPart
-part_of (req.Receive id branch day account part) = part
-part_of _ = None
+abbrev pub part_asked : Request → Option WrittenPart
+part_asked (req.Receive id branch day account part) = part
+part_asked _ = None
 
 -- the transfer of an ID
 abbrev pub transfer_in : Federation → Option (List ℕ) → Option Transfer

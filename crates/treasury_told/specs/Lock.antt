@@ -8,13 +8,13 @@ use Rattle.treasury_told.specs.Shown.{shown_text, line_text}
 use Rattle.treasury_told.specs.Pieces.{shown_day}
 
 -- the branch that a request takes entries into, or locks
-abbrev pub branch_of : Request → Option (List ℕ)
-branch_of (req.Import branch journal) = Some branch
-branch_of (req.Dispatch id from to day amount account) = Some from
-branch_of (req.Receive id branch day account part) = Some branch
-branch_of (req.Lock branch day) = Some branch
-branch_of (req.Close branch day accounts into) = Some branch
-branch_of _ = None
+abbrev pub branch_asked : Request → Option (List ℕ)
+branch_asked (req.Import branch journal) = Some branch
+branch_asked (req.Dispatch id from to day amount account) = Some from
+branch_asked (req.Receive id branch day account part) = Some branch
+branch_asked (req.Lock branch day) = Some branch
+branch_asked (req.Close branch day accounts into) = Some branch
+branch_asked _ = None
 
 -- what is said after it of a closing
 abbrev pub close_hint : Request → List ℕ
@@ -36,4 +36,4 @@ branch_lock f hint (Some name) = locked_text name hint (lock_of f name)
 
 -- what is said of the lock of a request's branch
 unfoldable pub lock_text : Federation → Request → List ℕ
-lock_text f request = branch_lock f (close_hint request) (branch_of request)
+lock_text f request = branch_lock f (close_hint request) (branch_asked request)

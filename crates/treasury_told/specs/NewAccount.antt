@@ -29,7 +29,7 @@ unfoldable pub between : List ℕ → List ℕ → List ℕ → List ℕ
 between before text behind = before ++ shown_text text ++ behind
 
 -- the note of a listed account that a branch does not have
-unfoldable pub unknown_text : List ℕ → List ℕ → List ℕ
-unknown_text branch name =
+unfoldable pub unknown_account_text : List ℕ → List ℕ → List ℕ
+unknown_account_text branch name =
     between (codes "note: --accounts: ") name (codes " is no account of ")
     ++ between [] branch (codes ", and closes nothing\n")

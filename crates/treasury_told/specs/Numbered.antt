@@ -8,9 +8,9 @@ use Rattle.treasury_told.specs.declared.explain.numbered.Numbered.TheVariants as
 use Rattle.treasury_told.specs.Standing.{is_nobody}
 
 -- the item of a number, counted from 1
-abbrev pub numbered : {X : Type 0} → List X → ℕ → Option X
-numbered xs zero = None
-numbered xs (suc n) = slice_get xs n
+abbrev pub item_of_number : {X : Type 0} → List X → ℕ → Option X
+item_of_number xs zero = None
+item_of_number xs (suc n) = slice_get xs n
 
 -- the new ones among the transactions of a text
 abbrev pub new_of : List Standing → List Standing

@@ -18,7 +18,8 @@ use Rattle.journal_lines.specs.declared.line_kind.LineKind.TheVariants.{Blank, C
 use Rattle.journal_lines.specs.declared.line_kind.LineKind.TheVariants.{Commodity as Directive, Skipped, Unknown}
 use Rattle.journal_lines.specs.LineKind.{kind_of, is_remark}
 use Rattle.journal_lines.specs.Lines.{numbered}
-use Rattle.journal_format.specs.PostingParts.{turned, part_of, amount_in, price_in, claim_in, asserted_in}
+use Rattle.journal_format.specs.PostingParts.{turned, amount_part_of, amount_text_in, price_text_in, claim_in}
+use Rattle.journal_format.specs.PostingParts.{asserted_in}
 use Rattle.treasury_told.specs.declared.notes.odd.Seen.{Seen}
 use Rattle.treasury_told.specs.declared.notes.odd.ReadAs.{ReadAs}
 use Rattle.treasury_told.specs.declared.notes.odd.ReadAs.TheVariants as as_a
@@ -53,20 +54,20 @@ is_odd_from group s [] = false
 is_odd_from group s (b ∷ rest) =
     ((b == group) && (not s.quoted && is_odd_mark s rest)) || is_odd_from group (seen_with s b) rest
 
-abbrev pub is_odd : ℕ → List ℕ → Bool
-is_odd group text = is_odd_from group nothing_seen text
+abbrev pub is_odd_amount : ℕ → List ℕ → Bool
+is_odd_amount group text = is_odd_from group nothing_seen text
 
 -- the text is odd in the style of a commodity
 abbrev pub is_odd_style : List ℕ → Option Style → Bool
 is_odd_style text None = false
-is_odd_style text (Some style) = is_odd (group_byte style.mark) text
+is_odd_style text (Some style) = is_odd_amount (group_byte style.mark) text
 
 abbrev pub is_odd_in : List Style → Commodity → List ℕ → Bool
 is_odd_in styles unit text = is_odd_style text (slice_get styles unit.0)
 
 -- a text that is UTF-8; no other one is an amount
-abbrev pub text_in : List ℕ → Option (List ℕ)
-text_in text = if is_utf8 text then Some text else None
+abbrev pub text_if_utf8 : List ℕ → Option (List ℕ)
+text_if_utf8 text = if is_utf8 text then Some text else None
 
 -- what a text was read as, if it is odd in the style of that commodity
 abbrev pub if_odd : List Style → Commodity → List ℕ → ReadAs → Option ReadAs
@@ -82,7 +83,7 @@ odd_if_text styles None = None
 odd_if_text styles (Some text) = odd_read styles text (amount styles text)
 
 unfoldable pub odd_amount : List Style → List ℕ → Option ReadAs
-odd_amount styles text = odd_if_text styles (text_in text)
+odd_amount styles text = odd_if_text styles (text_if_utf8 text)
 
 -- the same of a cost
 abbrev pub odd_cost : List Style → List ℕ → Result Price Cause → Option ReadAs
@@ -94,7 +95,7 @@ odd_cost_if_text styles None = None
 odd_cost_if_text styles (Some text) = odd_cost styles text (price styles text)
 
 unfoldable pub odd_price : List Style → List ℕ → Option ReadAs
-odd_price styles text = odd_cost_if_text styles (text_in text)
+odd_price styles text = odd_cost_if_text styles (text_if_utf8 text)
 
 -- an odd text of a line, with what it was read as
 pub record OddText : Type 0 where
@@ -126,13 +127,13 @@ is_posting_line line = is_inner (kind_of line) && not (is_remark line)
 -- the odd ones of a posting's amount part: its amount, its cost, its asserted balance
 unfoldable pub odd_parts : List Style → ℕ → List ℕ → List OddText
 odd_parts styles n part =
-    odd_at n (amount_in part) (odd_amount styles (amount_in part))
-    ++ odd_at n (price_in part) (odd_price styles (price_in part))
+    odd_at n (amount_text_in part) (odd_amount styles (amount_text_in part))
+    ++ odd_at n (price_text_in part) (odd_price styles (price_text_in part))
     ++ odd_at n (asserted_in (claim_in part)) (odd_amount styles (asserted_in (claim_in part)))
 
 -- the odd ones of a line, which has them if it is a posting
 unfoldable pub odd_line : List Style → ℕ × List ℕ → List OddText
-odd_line styles l = if is_posting_line l.1 then odd_parts styles l.0 (part_of l.1) else []
+odd_line styles l = if is_posting_line l.1 then odd_parts styles l.0 (amount_part_of l.1) else []
 
 -- the lines of the transactions whose headers stand on these lines, which are in order: below a header, as far as they
 -- are indented

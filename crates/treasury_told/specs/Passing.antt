@@ -14,7 +14,7 @@ use Rattle.book_core.specs.Balance.{turnover}
 use Rattle.book_core.specs.GoodBook.{most_turnover, is_over}
 use Rattle.journal_format.specs.declared.txn.Located.{Located}
 use Rattle.journal_format.specs.Pieces.{Reads}
-use Rattle.journal_balance.specs.Legs.{legs_of}
+use Rattle.journal_balance.specs.Legs.{balanced_entry}
 use Rattle.treasury_state.specs.declared.record.Record.{Record}
 use Rattle.treasury_state.specs.Federation.{Federation, records_of, entries}
 use Rattle.treasury_core.specs.Step.{records_in_file, new_in, enter_refusal}
@@ -96,30 +96,32 @@ pub record TellsPassed (f : Federation) (name source journal old new : List ℕ)
 -- ---- how it is looked for: by sums that stop counting once they are over the limit
 
 -- what a table of sums by commodity says; after its end nothing
-abbrev pub sum_at : List ℕ → Commodity → ℕ
-sum_at table u = slice_index_or table u.0 0
+abbrev pub turnover_at : List ℕ → Commodity → ℕ
+turnover_at table u = slice_index_or table u.0 0
 
 -- the table with what a leg moves, up to the greatest number of 64 bits; a leg of a commodity after its end is left
 -- out
-unfoldable pub with_leg : List ℕ → Leg → List ℕ
-with_leg table x =
+unfoldable pub turnovers_with_leg : List ℕ → Leg → List ℕ
+turnovers_with_leg table x =
     if nat_lt x.unit.0 (length table)
-    then slice_set table x.unit.0 (min (sum_at table x.unit + unsigned_abs x.qty) (2 ^ 64 - 1)) else table
+    then slice_set table x.unit.0 (min (turnover_at table x.unit + unsigned_abs x.qty) (2 ^ 64 - 1)) else table
 
 -- as far as it is counted
-abbrev pub counted : ℕ → ℕ
-counted n = min n (most_turnover + 1)
+abbrev pub capped_turnover : ℕ → ℕ
+capped_turnover n = min n (most_turnover + 1)
 
 -- a table's turnovers are those of a book, as far as they are counted
 abbrev pub AreTurnovers : List ℕ → List Entry → Type 0
-AreTurnovers table b = (u : Commodity) → u.0 < length table → counted (sum_at table u) ≡ counted (turnover u b)
+AreTurnovers table b =
+    (u : Commodity) → u.0 < length table → capped_turnover (turnover_at table u) ≡ capped_turnover (turnover u b)
 
 -- the first commodity of a table that is over the limit; none where none is
 abbrev pub IsFirstOver : List ℕ → Option Commodity → Type 0
-IsFirstOver table None = (u : Commodity) → u.0 < length table → sum_at table u ≤ most_turnover
+IsFirstOver table None = (u : Commodity) → u.0 < length table → turnover_at table u ≤ most_turnover
 IsFirstOver table (Some unit) =
     (unit.0 < length table)
-    × ((most_turnover < sum_at table unit) × ((u : Commodity) → u.0 < unit.0 → sum_at table u ≤ most_turnover))
+    × ((most_turnover < turnover_at table unit)
+    × ((u : Commodity) → u.0 < unit.0 → turnover_at table u ≤ most_turnover))
 
 -- what a transaction adds to a branch
 abbrev pub entry_list : Option Entry → List Entry
@@ -127,7 +129,7 @@ entry_list None = []
 entry_list (Some e) = e ∷ []
 
 abbrev pub adds : List Style → Standing → List Entry
-adds styles s = if is_nobody s.holder then entry_list (entry_in (legs_of styles s.txn)) else []
+adds styles s = if is_nobody s.holder then entry_list (entry_in (balanced_entry styles s.txn)) else []
 
 -- the entries of a branch, and those that transactions of a text add
 abbrev pub entries_before : List Style → List Record → List Standing → List Entry
@@ -138,9 +140,9 @@ abbrev pub AreWithin : List Style → List Entry → Type 0
 AreWithin styles b = (u : Commodity) → u.0 < length styles → turnover u b ≤ most_turnover
 
 -- the place of the first transaction with which one does, and that commodity; none where none does
-abbrev pub IsPlaced : List Style → List Record → List Standing → Option (ℕ × Commodity) → Type 0
-IsPlaced styles records found None = AreWithin styles (entries_before styles records found)
-IsPlaced styles records found (Some p) =
+abbrev pub IsPlaceOfPassing : List Style → List Record → List Standing → Option (ℕ × Commodity) → Type 0
+IsPlaceOfPassing styles records found None = AreWithin styles (entries_before styles records found)
+IsPlaceOfPassing styles records found (Some p) =
     AreWithin styles (entries_before styles records (take p.0 found))
     × ((p.1.0 < length styles)
     × ((most_turnover < turnover p.1 (entries_before styles records (take (suc p.0) found)))

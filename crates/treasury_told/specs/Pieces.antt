@@ -14,15 +14,15 @@ use Rattle.journal_lines.specs.Printed.{header_status, header_code}
 use Rattle.journal_format.specs.declared.txn.Txn.{Txn}
 use Rattle.treasury_told.specs.Sentence.{sentence_of}
 use Rattle.treasury_told.specs.Shown.{shown_text, line_text}
-use Rattle.treasury_told.specs.Numbered.{numbered}
+use Rattle.treasury_told.specs.Numbered.{item_of_number}
 
 -- a text writes the amount: its commodity is declared, and it is within the limit
-abbrev pub is_written : List Style → Commodity → ℤ → Bool
-is_written styles unit q = nat_lt unit.0 (length styles) && nat_le (unsigned_abs q) limit
+abbrev pub is_printable_amount : List Style → Commodity → ℤ → Bool
+is_printable_amount styles unit q = nat_lt unit.0 (length styles) && nat_le (unsigned_abs q) limit
 
 -- an amount as it is shown
 abbrev pub shown_amount : List Style → Commodity → ℤ → List ℕ
-shown_amount styles unit q = if is_written styles unit q then printed_in styles unit q else codes "?"
+shown_amount styles unit q = if is_printable_amount styles unit q then printed_in styles unit q else codes "?"
 
 -- a line that names an amount
 abbrev pub named_amount : List Style → List ℕ → Commodity → ℤ → List ℕ
@@ -60,4 +60,4 @@ line_if_any n (Some line) = numbered_line n line
 
 -- the line of that number of a text, if it has one
 unfoldable pub source_line : List ℕ → ℕ → List ℕ
-source_line text n = line_if_any n (numbered (lines text) n)
+source_line text n = line_if_any n (item_of_number (lines text) n)

@@ -6,7 +6,7 @@ use Rattle.money_core.specs.declared.style.Style.{Style}
 use Rattle.book_core.specs.declared.refusal.Refusal.TheVariants.{Plain}
 use Rattle.journal_format.specs.declared.txn.Located.{Located}
 use Rattle.journal_format.specs.Pieces.{Reads}
-use Rattle.journal_balance.specs.Legs.{legs_of}
+use Rattle.journal_balance.specs.Legs.{balanced_entry}
 use Rattle.treasury_state.specs.declared.record.Record.{Record}
 use Rattle.treasury_state.specs.Federation.{Federation, records_of, lock_of}
 use Rattle.treasury_core.specs.Step.{records_in_file, refused_in, unbalanced}
@@ -21,7 +21,7 @@ use Rattle.treasury_told.specs.Shown.{named_text}
 use Rattle.treasury_told.specs.Standing.{located_of, AreStanding}
 use Rattle.treasury_told.specs.Pieces.{header_text, origin_text, sentence_line, source_line}
 use Rattle.treasury_told.specs.Lock.{lock_text}
-use Rattle.treasury_told.specs.AtFault.{transit_in, cause_of, IsRefusedAt}
+use Rattle.treasury_told.specs.AtFault.{transit_in, cause_of_bar, IsRefusedAt}
 
 -- the line with what holds a mark: an entry of the branch, or an earlier transaction of the text
 abbrev pub held_line : ℕ → Record → List ℕ
@@ -50,9 +50,9 @@ maker_line mark =
     else codes "  only treasury close makes such an entry; a journal cannot\n"
 
 -- the account on which only transfers post
-abbrev pub transit_text : Option (List ℕ) → List ℕ
-transit_text None = []
-transit_text (Some account) =
+abbrev pub transit_account_text : Option (List ℕ) → List ℕ
+transit_account_text None = []
+transit_account_text (Some account) =
     named_text (codes "account") account ++ codes "  only treasury dispatch and treasury receive post there\n"
 
 -- for what a transaction is refused
@@ -60,19 +60,20 @@ abbrev pub bar_text : Federation → Request → List Record → List Standing �
 bar_text f request records found by.Clash s =
     named_text (codes "mark") s.mark ++ holder_line records found s.holder
 bar_text f request records found by.Mark s = named_text (codes "mark") s.mark ++ maker_line s.mark
-bar_text f request records found by.Account s = transit_text (transit_in (legs_of f.styles s.txn))
+bar_text f request records found by.Account s = transit_account_text (transit_in (balanced_entry f.styles s.txn))
 bar_text f request records found by.Locked s = lock_text f request
 
 -- the line of its header before the sentence, that line, and for what it is refused
-abbrev pub place_text : Federation → Request → List ℕ → List ℕ → List Record → List Standing → Bar → Standing → List ℕ
-place_text f request source text records found bar s =
-    sentence_line (origin_text source s.line) (cause_of bar) ++ source_line text s.line
+abbrev pub bar_place_text : Federation → Request → List ℕ → List ℕ → List Record → List Standing → Bar → Standing
+    → List ℕ
+bar_place_text f request source text records found bar s =
+    sentence_line (origin_text source s.line) (cause_of_bar bar) ++ source_line text s.line
     ++ bar_text f request records found bar s
 
 abbrev pub at_place : Federation → Request → List ℕ → List ℕ → List Record → List Standing → Bar → Option Standing
     → List ℕ
 at_place f request source text records found bar None = []
-at_place f request source text records found bar (Some s) = place_text f request source text records found bar s
+at_place f request source text records found bar (Some s) = bar_place_text f request source text records found bar s
 
 -- a command refuses a journal into a branch so: every transaction balances, and one of them is refused, as they are
 -- taken in turn
@@ -81,7 +82,7 @@ pub record IsBarredText (f : Federation) (name journal : List ℕ) (bar : Bar) :
   pub reads : Reads f.styles journal list
   pub even : unbalanced f.styles list ≡ None
   pub refused : refused_in f.styles (lock_of f name) (records_of f name) (records_in_file f.styles list)
-      ≡ Some (Plain (cause_of bar))
+      ≡ Some (Plain (cause_of_bar bar))
 
 -- the request is that import
 abbrev pub IsBarred : Federation → Request → List ℕ → List ℕ → Bar → Type 0
@@ -92,7 +93,7 @@ pub record IsFoundAt (f : Federation) (name journal : List ℕ) (bar : Bar) (fou
     (place : ℕ) : Type 0 where
   pub reads : Reads f.styles journal (located_of found)
   pub standing : AreStanding f.styles (records_of f name) [] found
-  pub refused : IsRefusedAt f.styles (lock_of f name) (records_of f name) (located_of found) place (cause_of bar)
+  pub refused : IsRefusedAt f.styles (lock_of f name) (records_of f name) (located_of found) place (cause_of_bar bar)
 
 -- what is appended tells of the transaction of a text at which a command refuses it
 pub record TellsRefused (f : Federation) (request : Request) (name source journal : List ℕ) (bar : Bar)

@@ -24,8 +24,8 @@ kind_text kind.Object = codes "an object"
 abbrev pub line_part : ℕ → List ℕ
 line_part line = if line == 1 then [] else codes " of line " ++ decimal line
 
-abbrev pub place_text : ℕ → ℕ → List ℕ
-place_text line byte = codes "byte " ++ decimal byte ++ line_part line
+abbrev pub byte_place_text : ℕ → ℕ → List ℕ
+byte_place_text line byte = codes "byte " ++ decimal byte ++ line_part line
 
 -- keys and words, each after a blank
 abbrev pub key_text : Key → List ℕ
@@ -45,18 +45,18 @@ abbrev pub further_text : List Key → List ℕ
 further_text [] = []
 further_text (k ∷ ks) = codes "; also:" ++ keys_text (k ∷ ks)
 
-unfoldable pub request_text : Word → List ℕ
-request_text w = line_text (codes "keys of " ++ word_name w ++ codes ": do" ++ keys_text (needed w)
+unfoldable pub word_keys_text : Word → List ℕ
+word_keys_text w = line_text (codes "keys of " ++ word_name w ++ codes ": do" ++ keys_text (needed w)
     ++ further_text (further w))
 
 -- the text is no JSON
 abbrev pub json_text : ℕ → ℕ → Bool → List ℕ
-json_text line byte true = line_text (codes "no JSON: it ends too early, after " ++ place_text line byte)
-json_text line byte false = line_text (codes "no JSON from " ++ place_text line byte ++ codes " on")
+json_text line byte true = line_text (codes "no JSON: it ends too early, after " ++ byte_place_text line byte)
+json_text line byte false = line_text (codes "no JSON from " ++ byte_place_text line byte ++ codes " on")
 
 -- a value that has to be a string is something else
-abbrev pub odd_text : List ℕ → Kind → List ℕ
-odd_text name k = line_text (name ++ codes ": a string is needed, and not " ++ kind_text k)
+abbrev pub not_string_text : List ℕ → Kind → List ℕ
+not_string_text name k = line_text (name ++ codes ": a string is needed, and not " ++ kind_text k)
 
 -- a key that a request may not have, if there is one
 abbrev pub other_text : Option (List ℕ) → List ℕ
@@ -68,7 +68,7 @@ abbrev pub missing_key_text : Key → List ℕ
 missing_key_text k = line_text (codes "missing key: " ++ key_name k)
 
 abbrev pub missing_text : Word → Key → Option (List ℕ) → List ℕ
-missing_text w k other = missing_key_text k ++ other_text other ++ request_text w
+missing_text w k other = missing_key_text k ++ other_text other ++ word_keys_text w
 
 -- one of two keys that only go together is there without the other
 abbrev pub there_text : Key → List ℕ
@@ -81,8 +81,8 @@ abbrev pub half_text : Key → Key → Option (List ℕ) → List ℕ
 half_text there missing other = alone_text there missing ++ other_text other
 
 -- `do` has this value, which asks for nothing
-abbrev pub unknown_text : List ℕ → List ℕ
-unknown_text text = named_text (codes "unknown do") text ++ line_text (codes "known:" ++ words_text all_words)
+abbrev pub unknown_word_text : List ℕ → List ℕ
+unknown_word_text text = named_text (codes "unknown do") text ++ line_text (codes "known:" ++ words_text all_words)
 
 -- the text is not UTF-8, the value no object, its day no date, its choice of a dry run none
 abbrev pub utf8_text : ℕ → List ℕ
@@ -104,11 +104,11 @@ fault_text (by.NotUtf8 byte) = utf8_text byte
 fault_text (by.NotJson line byte cut) = json_text line byte cut
 fault_text (by.NotAnObject k) = no_object_text k
 fault_text by.NoWord = line_text (codes "missing key: do")
-fault_text (by.WordOfKind k) = odd_text (codes "do") k
-fault_text (by.UnknownWord text) = unknown_text text
+fault_text (by.WordOfKind k) = not_string_text (codes "do") k
+fault_text (by.UnknownWord text) = unknown_word_text text
 fault_text (by.MissingKey w k other) = missing_text w k other
-fault_text (by.OtherKeys w other) = other_text other ++ request_text w
-fault_text (by.ValueOfKind k kind) = odd_text (key_name k) kind
+fault_text (by.OtherKeys w other) = other_text other ++ word_keys_text w
+fault_text (by.ValueOfKind k kind) = not_string_text (key_name k) kind
 fault_text (by.NoDate text) = day_text text
 fault_text (by.Half there missing other) = half_text there missing other
 fault_text (by.NoChoice text) = choice_text text

@@ -9,7 +9,7 @@ use Rattle.book_core.specs.declared.entry.Entry.{Entry}
 use Rattle.journal_format.specs.declared.txn.Txn.{Txn}
 use Rattle.journal_format.specs.declared.txn.Located.{Located}
 use Rattle.treasury_state.specs.declared.record.Record.{Record}
-use Rattle.treasury_state.specs.Mark.{mark_of, has_mark, is_held}
+use Rattle.treasury_state.specs.Mark.{transaction_mark, has_mark, is_held}
 use Rattle.treasury_core.specs.Step.{number_in}
 use Rattle.treasury_told.specs.declared.explain.standing.Standing.{Standing}
 use Rattle.treasury_told.specs.declared.explain.standing.Holder.{Holder}
@@ -42,7 +42,7 @@ is_nobody (by.Earlier place) = false
 -- is the first that does; and it is new exactly where neither a record nor a transaction before it has that mark
 pub record IsStanding (styles : List Style) (records : List Record) (before : List Standing)
     (s : Standing) : Type 0 where
-  pub mark : s.mark ≡ mark_of styles s.txn (number_in styles (txns_of before) s.txn) s.txn.mark
+  pub mark : s.mark ≡ transaction_mark styles s.txn (number_in styles (txns_of before) s.txn) s.txn.mark
   pub holder : s.holder
       ≡ holder_at (position_from (has_mark s.mark) 0 records) (position_from (goes_by s.mark) 0 before)
   pub new : is_nobody s.holder ≡ not (is_held records s.mark || list_any (goes_by s.mark) before)

@@ -26,7 +26,7 @@ ghost use Rattle.money_core.specs.declared.cause.Cause.{Cause as Reason};
 ghost use Rattle.book_core.specs.declared.refusal.Failure.{Failure};
 ghost use Rattle.book_core.specs.declared.refusal.Refusal.TheVariants.{Plain, ClaimFailed};
 ghost use Rattle.treasury_told.specs.declared.explain.at_fault.Bar.{Bar as Hindrance};
-ghost use Rattle.treasury_told.specs.AtFault.{cause_of};
+ghost use Rattle.treasury_told.specs.AtFault.{cause_of_bar};
 ghost use Rattle.treasury_told.specs.Detail.{IsBare};
 ghost use Rattle.treasury_told.specs.Failure.{TellsFailure};
 ghost use Rattle.treasury_told.specs.Passing.{IsPassed, IsPassedText, TellsPassed};
@@ -190,7 +190,7 @@ fn explain_cause<L: Ledger>(
     out: &mut Vec<u8>,
 ) -> Result<(), Cause>
     ensures barred { (bar : Hindrance) (name journal : List ℕ) → IsBarred state.now request.now name journal bar
-        → cause ≡ cause_of bar → OnOk result
+        → cause ≡ cause_of_bar bar → OnOk result
         (TellsRefused state.now request.now name source.now journal bar out.old.items out.new.items) }
     ensures passed { (name journal : List ℕ) → IsPassed state.now request.now name journal → cause ≡ Cause.Limit
         → OnOk result (TellsPassed state.now name source.now journal out.old.items out.new.items) }
@@ -227,7 +227,7 @@ pub fn explain<L: Ledger>(
         (TellsFailure state.now request.now source.now failure out.old.items out.new.items) }
     // Of an import that is refused by one of its transactions, it is that transaction of which all is said.
     ensures barred { (bar : Hindrance) (name journal : List ℕ) → IsBarred state.now request.now name journal bar
-        → refusal.now ≡ Plain (cause_of bar) → OnOk result
+        → refusal.now ≡ Plain (cause_of_bar bar) → OnOk result
         (TellsRefused state.now request.now name source.now journal bar out.old.items out.new.items) }
     // Of an import that is refused since a turnover exceeds its limit, it is the transaction with which it first does.
     ensures passed { (name journal : List ℕ) → IsPassed state.now request.now name journal

@@ -4,7 +4,7 @@ ghost use Rattle.std.specs.Prelude.{◌≡◌, ◌==◌, ◌∷◌, ◌++◌, []
 ghost use Rattle.std.specs.Str.Lines.{strip_carriage_return};
 ghost use Rattle.treasury_api.specs.Transcript.{is_blank_text, requests_among};
 ghost use Rattle.treasury_api.specs.RunEnd.{HasNoLineFeed, Ends};
-ghost use Rattle.treasury_api.specs.Served.{Serves, Feeds, EndsWithLine, feed_place};
+ghost use Rattle.treasury_api.specs.Served.{ServesRequests, Feeds, EndsWithLine, feed_place};
 
 use crate::lines::machine::Machine;
 use crate::lines::write::write_whole;
@@ -46,7 +46,7 @@ fn serve_line<W: Write, M: Machine, L: Listener>(
     machine: &mut M,
     listener: &mut L,
 ) -> Result<(), Cause>
-    ensures { Serves result M.step (W.contents writer.old) (W.contents writer.new)
+    ensures { ServesRequests result M.step (W.contents writer.old) (W.contents writer.new)
         machine.old (requests_among (line.now ∷ [])) machine.new }
 {
     listener.begin_line();

@@ -1,7 +1,7 @@
 //! The status of a reply.
 
 ghost use Rattle.std.specs.Prelude.{◌≡◌};
-ghost use Rattle.money_core.specs.Cause.{number_of};
+ghost use Rattle.money_core.specs.Cause.{cause_number};
 ghost use Rattle.treasury_api.specs.WebReply.{reason_of, status_of_number};
 ghost use Rattle.treasury_api.specs.WebServing.{code_of};
 
@@ -51,7 +51,7 @@ impl Status {
 
 /// The status of a refusal by this cause.
 pub fn status_of(cause: Cause) -> Status
-    ensures { code_of result ≡ status_of_number (number_of cause) }
+    ensures { code_of result ≡ status_of_number (cause_number cause) }
 {
     match cause.nr() {
         44 => Status::BadRequest,

@@ -1,7 +1,7 @@
 //! The words of `do`, and the keys that a request of each has beside it.
 
 ghost use Rattle.std.specs.Prelude.{◌≡◌, Some, find};
-ghost use Rattle.treasury_requests.specs.Words.{key_name, word_name, needed, further, has_name, all_words};
+ghost use Rattle.treasury_requests.specs.Words.{key_name, word_name, needed, further, is_word_named, all_words};
 
 /// What a request asks for: a value of `do`.
 #[derive(Clone, Copy, Debug, Drop)]
@@ -170,7 +170,7 @@ pub fn all_words() -> &'static [Word]
 
 /// The word that a text is.
 pub fn word_of(text: &str) -> Option<Word>
-    ensures { result ≡ find (has_name text.now) all_words }
+    ensures { result ≡ find (is_word_named text.now) all_words }
 {
     all_words().iter().copied().find(|word| word.name() == text)
 }

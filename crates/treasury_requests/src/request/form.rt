@@ -7,7 +7,7 @@ ghost use Rattle.treasury_requests.specs.Request.{text_at, day_at, key_count, di
 ghost use Rattle.treasury_requests.specs.Request.{chosen_at};
 ghost use Rattle.treasury_requests.specs.Request.{both_at, tagged_at, list_form, report_form, close_form, form};
 ghost use Rattle.treasury_requests.specs.Request.{request_of, HasDayNumbers, form_keys, is_report, yes_or_no};
-ghost use Rattle.treasury_requests.specs.Form.{shown, shown_whole};
+ghost use Rattle.treasury_requests.specs.Form.{form_view, shown_whole};
 
 use journal_lines::read_date;
 use money_core::Day;
@@ -96,7 +96,7 @@ pub struct SpelledForm<'a> {
 impl Form<'_> {
     /// Whether a report is asked for, not a command.
     fn is_report(&self) -> bool
-        ensures { result ≡ is_report (shown self.now) }
+        ensures { result ≡ is_report (form_view self.now) }
     {
         match self {
             Form::Balance { .. } => true,
@@ -151,8 +151,8 @@ fn count_form_keys(value: &Value) -> usize
 
 /// The form of a dispatch, where all its keys are there.
 fn dispatch_of<'a>(value: &'a Value) -> Option<Form<'a>>
-    ensures value { option_map shown result ≡ dispatch_at (view value.now) }
-    ensures days { IfSome result (λ form. HasDayNumbers (shown form)) }
+    ensures value { option_map form_view result ≡ dispatch_at (view value.now) }
+    ensures days { IfSome result (λ form. HasDayNumbers (form_view form)) }
 {
     let id = text_at(value, "id")?;
     let from = text_at(value, "from")?;
@@ -172,8 +172,8 @@ fn dispatch_of<'a>(value: &'a Value) -> Option<Form<'a>>
 
 /// The form of a receipt, where all its keys are there.
 fn receive_of<'a>(value: &'a Value) -> Option<Form<'a>>
-    ensures value { option_map shown result ≡ receive_at (view value.now) }
-    ensures days { IfSome result (λ form. HasDayNumbers (shown form)) }
+    ensures value { option_map form_view result ≡ receive_at (view value.now) }
+    ensures days { IfSome result (λ form. HasDayNumbers (form_view form)) }
 {
     let id = text_at(value, "id")?;
     let branch = text_at(value, "branch")?;
@@ -190,8 +190,8 @@ fn receive_of<'a>(value: &'a Value) -> Option<Form<'a>>
 
 /// The form of a receipt of a part, where all its keys are there.
 fn part_of<'a>(value: &'a Value) -> Option<Form<'a>>
-    ensures value { option_map shown result ≡ part_at (view value.now) }
-    ensures days { IfSome result (λ form. HasDayNumbers (shown form)) }
+    ensures value { option_map form_view result ≡ part_at (view value.now) }
+    ensures days { IfSome result (λ form. HasDayNumbers (form_view form)) }
 {
     let id = text_at(value, "id")?;
     let branch = text_at(value, "branch")?;
@@ -210,8 +210,8 @@ fn part_of<'a>(value: &'a Value) -> Option<Form<'a>>
 
 /// The form of a closing with one of the keys of a choice.
 fn chosen_of<'a>(value: &'a Value) -> Option<Form<'a>>
-    ensures value { option_map shown result ≡ chosen_at (view value.now) }
-    ensures days { IfSome result (λ form. HasDayNumbers (shown form)) }
+    ensures value { option_map form_view result ≡ chosen_at (view value.now) }
+    ensures days { IfSome result (λ form. HasDayNumbers (form_view form)) }
 {
     let branch = text_at(value, "branch")?;
     let day = day_at(value, "day")?;
@@ -236,8 +236,8 @@ fn chosen_of<'a>(value: &'a Value) -> Option<Form<'a>>
 
 /// The form of a closing with both keys of a choice.
 fn both_of<'a>(value: &'a Value) -> Option<Form<'a>>
-    ensures value { option_map shown result ≡ both_at (view value.now) }
-    ensures days { IfSome result (λ form. HasDayNumbers (shown form)) }
+    ensures value { option_map form_view result ≡ both_at (view value.now) }
+    ensures days { IfSome result (λ form. HasDayNumbers (form_view form)) }
 {
     let branch = text_at(value, "branch")?;
     let day = day_at(value, "day")?;
@@ -253,8 +253,8 @@ fn both_of<'a>(value: &'a Value) -> Option<Form<'a>>
 
 /// The form of a register with a tag, where all its keys are there.
 fn tagged_of<'a>(value: &'a Value) -> Option<Form<'a>>
-    ensures value { option_map shown result ≡ tagged_at (view value.now) }
-    ensures days { IfSome result (λ form. HasDayNumbers (shown form)) }
+    ensures value { option_map form_view result ≡ tagged_at (view value.now) }
+    ensures days { IfSome result (λ form. HasDayNumbers (form_view form)) }
 {
     let branch = text_at(value, "branch")?;
     let account = text_at(value, "account")?;
@@ -269,8 +269,8 @@ fn tagged_of<'a>(value: &'a Value) -> Option<Form<'a>>
 /// The form of the word of a list of what there is, if the value has one of so many keys.
 fn list_of<'a>(word: &str, keys: usize, value: &'a Value) -> Option<Form<'a>>
     requires { keys ≡ form_keys (view value.now) }
-    ensures value { option_map shown result ≡ list_form word.now (view value.now) }
-    ensures days { IfSome result (λ form. HasDayNumbers (shown form)) }
+    ensures value { option_map form_view result ≡ list_form word.now (view value.now) }
+    ensures days { IfSome result (λ form. HasDayNumbers (form_view form)) }
 {
     if word == "branches" && keys == 1 {
         Some(Form::Branches)
@@ -290,8 +290,8 @@ fn list_of<'a>(word: &str, keys: usize, value: &'a Value) -> Option<Form<'a>>
 /// The form of a report's word, if the value has one of so many keys.
 fn report_of<'a>(word: &str, keys: usize, value: &'a Value) -> Option<Form<'a>>
     requires { keys ≡ form_keys (view value.now) }
-    ensures value { option_map shown result ≡ report_form word.now (view value.now) }
-    ensures days { IfSome result (λ form. HasDayNumbers (shown form)) }
+    ensures value { option_map form_view result ≡ report_form word.now (view value.now) }
+    ensures days { IfSome result (λ form. HasDayNumbers (form_view form)) }
 {
     if word == "balance" && keys == 3 {
         let branch = text_at(value, "branch")?;
@@ -321,8 +321,8 @@ fn report_of<'a>(word: &str, keys: usize, value: &'a Value) -> Option<Form<'a>>
 /// The form of a closing or of a report's word, if the value has one of so many keys.
 fn close_or_report_of<'a>(word: &str, keys: usize, value: &'a Value) -> Option<Form<'a>>
     requires { keys ≡ form_keys (view value.now) }
-    ensures value { option_map shown result ≡ close_form word.now (view value.now) }
-    ensures days { IfSome result (λ form. HasDayNumbers (shown form)) }
+    ensures value { option_map form_view result ≡ close_form word.now (view value.now) }
+    ensures days { IfSome result (λ form. HasDayNumbers (form_view form)) }
 {
     if word == "close" && keys == 3 {
         let branch = text_at(value, "branch")?;
@@ -344,8 +344,8 @@ fn close_or_report_of<'a>(word: &str, keys: usize, value: &'a Value) -> Option<F
 
 /// The form of a word, if the value has it: its keys, each with a text, and no further key.
 fn form_by<'a>(word: &str, value: &'a Value) -> Option<Form<'a>>
-    ensures value { option_map shown result ≡ form word.now (view value.now) }
-    ensures days { IfSome result (λ form. HasDayNumbers (shown form)) }
+    ensures value { option_map form_view result ≡ form word.now (view value.now) }
+    ensures days { IfSome result (λ form. HasDayNumbers (form_view form)) }
 {
     let keys = count_form_keys(value);
     if word == "branch" && keys == 2 {
@@ -388,7 +388,7 @@ pub(crate) fn yes_or_no(text: &str) -> Option<bool>
 /// command, with `yes` or `no`.
 pub fn form_of<'a>(value: &'a Value) -> Option<SpelledForm<'a>>
     ensures value { option_map shown_whole result ≡ request_of (view value.now) }
-    ensures days { IfSome result (λ spelled. HasDayNumbers (shown spelled.form)) }
+    ensures days { IfSome result (λ spelled. HasDayNumbers (form_view spelled.form)) }
 {
     let word = text_at(value, "do")?;
     let form = form_by(word, value)?;

@@ -3,7 +3,7 @@
 ghost use Rattle.std.specs.Prelude.{◌≡◌, ◌⊎◌, Some, None, Ok, Err, IfOk, IfErr, option_copied, option_map};
 ghost use Rattle.std.specs.Result.{IsOkUnless};
 ghost use Rattle.treasury_requests.specs.Request.{spelled, HasDayNumbers};
-ghost use Rattle.treasury_requests.specs.Form.{shown, shown_part};
+ghost use Rattle.treasury_requests.specs.Form.{form_view, part_view};
 
 use crate::bytes::Bytes;
 use crate::request::form::{Form, PartForm, form_of};
@@ -28,7 +28,7 @@ pub(crate) fn owned_text(alloc: Global, text: Option<&str>) -> Result<Option<Tex
 
 /// A part with texts of its own, if there is one.
 fn owned_part(alloc: Global, part: Option<PartForm>) -> Result<Option<WrittenPart>, Cause>
-    ensures equal { IfOk result (λ owned. owned ≡ option_map shown_part part.entry) }
+    ensures equal { IfOk result (λ owned. owned ≡ option_map part_view part.entry) }
     ensures memory { IsOkUnless result Cause.OutOfMemory }
 {
     match part {
@@ -43,7 +43,7 @@ fn owned_part(alloc: Global, part: Option<PartForm>) -> Result<Option<WrittenPar
 
 /// The request of a form, with texts of its own.
 pub fn request_of(alloc: Global, form: Form) -> Result<Request, Cause>
-    ensures equal { IfOk result (λ request. request ≡ shown form.entry) }
+    ensures equal { IfOk result (λ request. request ≡ form_view form.entry) }
     ensures memory { IsOkUnless result Cause.OutOfMemory }
 {
     match form {

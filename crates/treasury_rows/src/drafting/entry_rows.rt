@@ -9,7 +9,7 @@ ghost use Rattle.journal_format.specs.CanonicalText.{body_text, marked};
 ghost use Rattle.journal_format.specs.Mark.{is_mark, is_mark_byte};
 ghost use Rattle.journal_format.specs.Pieces.{located, Reads};
 ghost use Rattle.journal_format.specs.Printable.{IsPrintable};
-ghost use Rattle.journal_balance.specs.Legs.{legs_of};
+ghost use Rattle.journal_balance.specs.Legs.{balanced_entry};
 ghost use Rattle.treasury_state.specs.declared.record.Record.{Record as BranchRecord};
 ghost use Rattle.treasury_state.specs.Good.{IsGoodRecord};
 ghost use Rattle.treasury_state.specs.Rows.{entry_row, entry_rows_from};
@@ -63,8 +63,8 @@ fn read_body(alloc: Global, styles: &Styles, text: &str) -> Result<Txn, Cause>
 /// What the transaction does to the book.
 fn read_entry(alloc: Global, styles: &Styles, txn: &Txn) -> Result<Entry, Cause>
     requires { IsPrintable styles.now txn.now }
-    ensures reads { IsReading (λ (e : BookEntry). legs_of styles.now txn.now ≡ Ok e) result }
-    ensures legs { IfOk result (λ e. legs_of styles.now txn.now ≡ Ok e) }
+    ensures reads { IsReading (λ (e : BookEntry). balanced_entry styles.now txn.now ≡ Ok e) result }
+    ensures legs { IfOk result (λ e. balanced_entry styles.now txn.now ≡ Ok e) }
 {
     match legs(alloc, txn, styles) {
         Ok(entry) => Ok(entry),

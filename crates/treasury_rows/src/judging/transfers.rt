@@ -5,7 +5,7 @@ ghost use Rattle.std.specs.List.{AllByRecursion};
 ghost use Rattle.money_core.specs.Amount.{limit};
 ghost use Rattle.treasury_state.specs.declared.transfer.Part.{Part as TransferPart};
 ghost use Rattle.treasury_state.specs.declared.transfer.Transfer.{Transfer as Moved};
-ghost use Rattle.treasury_state.specs.Transfer.{is_key, sum_of};
+ghost use Rattle.treasury_state.specs.Transfer.{is_key, sum_of_parts};
 ghost use Rattle.treasury_state.specs.Good.{AreAscending, AreKeyed, IsGoodPart, HasGoodParts, IsGoodRest};
 ghost use Rattle.treasury_state.specs.Good.{IsGoodTransfer};
 ghost use Rattle.treasury_state.specs.Room.{is_before, is_key_before};
@@ -90,7 +90,7 @@ fn are_good_parts(dispatched: Day, parts: &[Part]) -> bool
 /// large.
 fn are_within(qty: i64, parts: &[Part]) -> bool
     requires { AllByRecursion (λ (p : TransferPart). int_le (pos 1) p.qty ≡ true) parts.now }
-    ensures { IsTrue result ↔ (int_le (sum_of parts.now) qty ≡ true) }
+    ensures { IsTrue result ↔ (int_le (sum_of_parts parts.now) qty ≡ true) }
 {
     let mut left = qty;
     'part: for part in parts {

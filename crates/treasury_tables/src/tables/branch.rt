@@ -4,8 +4,9 @@ ghost use Rattle.std.specs.Prelude.{◌≡◌, ◌∷◌, [], map, IfOk, OnOk, I
 ghost use Rattle.sqlite.specs.Order.{column};
 ghost use Rattle.sqlite.specs.State.{IsUnchanged};
 ghost use Rattle.sqlite.specs.Held.{state};
-ghost use Rattle.treasury_tables.specs.Tables.{store_schema, branch};
-ghost use Rattle.treasury_tables.specs.Rows.{ShowsTables, Tables, branch_row, shown_branch, with_branch, with_lock};
+ghost use Rattle.treasury_tables.specs.Tables.{store_schema, branch_table};
+ghost use Rattle.treasury_tables.specs.Rows.{ShowsTables, Tables, values_of_branch, shown_branch, tables_with_branch};
+ghost use Rattle.treasury_tables.specs.Rows.{tables_with_lock};
 ghost use Rattle.treasury_tables.specs.Creating.{Creates};
 ghost use Rattle.treasury_tables.specs.Kept.{Queries, Writes, IsFaithful};
 ghost use Rattle.treasury_tables.specs.Order.{InOrder};
@@ -20,7 +21,7 @@ use treasury_state::BranchRow;
 /// Makes the table.
 pub(crate) fn create_branch<S: Alter>(tx: &mut Transaction<'_, S>) -> Result<usize, Error>
     ensures same_reference { tx.new.conn.ghost_name ≡ tx.old.conn.ghost_name }
-    ensures creates { Creates S.Store tx.old.conn.now tx.new.conn.now result branch }
+    ensures creates { Creates S.Store tx.old.conn.now tx.new.conn.now result branch_table }
 {
     tx.execute(
         "CREATE TABLE branch (nr INTEGER PRIMARY KEY, name TEXT NOT NULL UNIQUE, locked INTEGER) STRICT",
@@ -29,7 +30,7 @@ pub(crate) fn create_branch<S: Alter>(tx: &mut Transaction<'_, S>) -> Result<usi
 }
 
 impl FromRow for BranchRow {
-    ghost columns = { branch_row };
+    ghost columns = { values_of_branch };
 
     ghost front = { λ r. column r 0 ∷ column r 1 ∷ column r 2 ∷ [] };
 
@@ -52,7 +53,7 @@ pub(crate) fn load_branches<S: Alter>(
     ensures shown { IsFaithful S.Store conn.new
         → IfOk result
         (λ rows. (state S.Store conn.old).now.schema ≡ store_schema
-        → IsPermutation (map branch_row rows) (map shown_branch ((state S.Store conn.old).now.trees 3))) }
+        → IsPermutation (map values_of_branch rows) (map shown_branch ((state S.Store conn.old).now.trees 3))) }
     ensures same { IsFaithful S.Store conn.new
         → OnOk result
         ((state S.Store conn.old).now.schema ≡ store_schema
@@ -72,7 +73,7 @@ pub(crate) fn put_branch<S: Alter>(
     row: &BranchRow,
 ) -> Result<usize, Error>
     ensures same_reference { tx.new.conn.ghost_name ≡ tx.old.conn.ghost_name }
-    ensures writes { Writes S.Store tx.old.conn.now tx.new.conn.now result (with_branch row.now) }
+    ensures writes { Writes S.Store tx.old.conn.now tx.new.conn.now result (tables_with_branch row.now) }
 {
     let nr = row.nr.to_sql();
     let name = row.name.as_str().to_sql();
@@ -90,7 +91,7 @@ pub(crate) fn set_lock<S: Alter>(
     day: i64,
 ) -> Result<usize, Error>
     ensures same_reference { tx.new.conn.ghost_name ≡ tx.old.conn.ghost_name }
-    ensures writes { Writes S.Store tx.old.conn.now tx.new.conn.now result (with_lock branch day) }
+    ensures writes { Writes S.Store tx.old.conn.now tx.new.conn.now result (tables_with_lock branch day) }
 {
     let nr = branch.to_sql();
     let locked = day.to_sql();

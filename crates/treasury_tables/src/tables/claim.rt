@@ -7,9 +7,10 @@ ghost use Rattle.sqlite.specs.Values.{bound};
 ghost use Rattle.sqlite.specs.State.{KeepsCommit, Survives, IsUnchanged};
 ghost use Rattle.sqlite.specs.Held.{state};
 ghost use Rattle.treasury_tables.specs.declared.change.Change.TheVariants.{Claim as ClaimChange};
-ghost use Rattle.treasury_tables.specs.Rows.{ShowsTables, Tables, HoldsTables, claim_row, shown_claim, with_claim};
+ghost use Rattle.treasury_tables.specs.Rows.{ShowsTables, Tables, HoldsTables, values_of_claim, shown_claim};
+ghost use Rattle.treasury_tables.specs.Rows.{tables_with_claim};
 ghost use Rattle.treasury_tables.specs.Rows.{written};
-ghost use Rattle.treasury_tables.specs.Tables.{store_schema, claim};
+ghost use Rattle.treasury_tables.specs.Tables.{store_schema, claim_table};
 ghost use Rattle.treasury_tables.specs.Creating.{Creates};
 ghost use Rattle.treasury_tables.specs.Kept.{Queries, Writes, IsFaithful};
 ghost use Rattle.treasury_tables.specs.Order.{InOrder};
@@ -27,7 +28,7 @@ use treasury_state::ClaimRow;
 /// Makes the table.
 pub(crate) fn create_claim<S: Alter>(tx: &mut Transaction<'_, S>) -> Result<usize, Error>
     ensures same_reference { tx.new.conn.ghost_name ≡ tx.old.conn.ghost_name }
-    ensures creates { Creates S.Store tx.old.conn.now tx.new.conn.now result claim }
+    ensures creates { Creates S.Store tx.old.conn.now tx.new.conn.now result claim_table }
 {
     tx.execute(
         "CREATE TABLE claim (branch INTEGER NOT NULL, entry INTEGER NOT NULL, leg INTEGER NOT NULL, kind INTEGER NOT NULL, unit INTEGER NOT NULL, qty INTEGER NOT NULL, PRIMARY KEY (branch, entry, leg)) STRICT",
@@ -36,7 +37,7 @@ pub(crate) fn create_claim<S: Alter>(tx: &mut Transaction<'_, S>) -> Result<usiz
 }
 
 impl FromRow for ClaimRow {
-    ghost columns = { claim_row };
+    ghost columns = { values_of_claim };
 
     ghost front = { λ r. column r 0 ∷ column r 1 ∷ column r 2 ∷ column r 3 ∷ column r 4 ∷ column r 5 ∷ [] };
 
@@ -69,7 +70,7 @@ pub(crate) fn load_claims<S: Alter>(
     ensures shown { IsFaithful S.Store conn.new
         → IfOk result
         (λ rows. (state S.Store conn.old).now.schema ≡ store_schema
-        → IsPermutation (map claim_row rows) (map shown_claim ((state S.Store conn.old).now.trees 10))) }
+        → IsPermutation (map values_of_claim rows) (map shown_claim ((state S.Store conn.old).now.trees 10))) }
     ensures same { IsFaithful S.Store conn.new
         → OnOk result
         ((state S.Store conn.old).now.schema ≡ store_schema
@@ -85,7 +86,7 @@ pub(crate) fn load_claims<S: Alter>(
 
 /// The values of a claim's row, in the order of its columns.
 fn claim_values(row: &ClaimRow) -> [ValueRef<'_>; 6]
-    ensures { bound result ≡ claim_row row.now }
+    ensures { bound result ≡ values_of_claim row.now }
 {
     [
         row.branch.to_sql(),
@@ -100,7 +101,7 @@ fn claim_values(row: &ClaimRow) -> [ValueRef<'_>; 6]
 /// Inserts a claim.
 pub fn put_claim<S: Alter>(tx: &mut Transaction<'_, S>, row: &ClaimRow) -> Result<usize, Error>
     ensures same_reference { tx.new.conn.ghost_name ≡ tx.old.conn.ghost_name }
-    ensures writes { Writes S.Store tx.old.conn.now tx.new.conn.now result (with_claim row.now) }
+    ensures writes { Writes S.Store tx.old.conn.now tx.new.conn.now result (tables_with_claim row.now) }
 {
     let values = claim_values(row);
     tx.execute(

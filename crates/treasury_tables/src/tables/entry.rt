@@ -7,9 +7,10 @@ ghost use Rattle.sqlite.specs.Values.{bound};
 ghost use Rattle.sqlite.specs.State.{KeepsCommit, Survives, IsUnchanged};
 ghost use Rattle.sqlite.specs.Held.{state};
 ghost use Rattle.treasury_tables.specs.declared.change.Change.TheVariants.{Entry as EntryChange};
-ghost use Rattle.treasury_tables.specs.Rows.{ShowsTables, Tables, HoldsTables, entry_row, shown_entry, with_entry};
+ghost use Rattle.treasury_tables.specs.Rows.{ShowsTables, Tables, HoldsTables, values_of_entry, shown_entry};
+ghost use Rattle.treasury_tables.specs.Rows.{tables_with_entry};
 ghost use Rattle.treasury_tables.specs.Rows.{written};
-ghost use Rattle.treasury_tables.specs.Tables.{store_schema, entry};
+ghost use Rattle.treasury_tables.specs.Tables.{store_schema, entry_table};
 ghost use Rattle.treasury_tables.specs.Creating.{Creates};
 ghost use Rattle.treasury_tables.specs.Kept.{Queries, Writes, IsFaithful};
 ghost use Rattle.treasury_tables.specs.Order.{InOrder};
@@ -27,7 +28,7 @@ use treasury_state::EntryRow;
 /// Makes the table.
 pub(crate) fn create_entry<S: Alter>(tx: &mut Transaction<'_, S>) -> Result<usize, Error>
     ensures same_reference { tx.new.conn.ghost_name ≡ tx.old.conn.ghost_name }
-    ensures creates { Creates S.Store tx.old.conn.now tx.new.conn.now result entry }
+    ensures creates { Creates S.Store tx.old.conn.now tx.new.conn.now result entry_table }
 {
     tx.execute(
         "CREATE TABLE entry (branch INTEGER NOT NULL, nr INTEGER NOT NULL, day INTEGER NOT NULL, mark TEXT NOT NULL, body TEXT NOT NULL, PRIMARY KEY (branch, nr), UNIQUE (branch, mark)) STRICT",
@@ -36,7 +37,7 @@ pub(crate) fn create_entry<S: Alter>(tx: &mut Transaction<'_, S>) -> Result<usiz
 }
 
 impl FromRow for EntryRow {
-    ghost columns = { entry_row };
+    ghost columns = { values_of_entry };
 
     ghost front = { λ r. column r 0 ∷ column r 1 ∷ column r 2 ∷ column r 3 ∷ column r 4 ∷ [] };
 
@@ -67,7 +68,7 @@ pub(crate) fn load_entries<S: Alter>(
     ensures shown { IsFaithful S.Store conn.new
         → IfOk result
         (λ rows. (state S.Store conn.old).now.schema ≡ store_schema
-        → IsPermutation (map entry_row rows) (map shown_entry ((state S.Store conn.old).now.trees 5))) }
+        → IsPermutation (map values_of_entry rows) (map shown_entry ((state S.Store conn.old).now.trees 5))) }
     ensures same { IsFaithful S.Store conn.new
         → OnOk result
         ((state S.Store conn.old).now.schema ≡ store_schema
@@ -83,7 +84,7 @@ pub(crate) fn load_entries<S: Alter>(
 
 /// The values of an entry's row, in the order of its columns.
 fn entry_values(row: &EntryRow) -> [ValueRef<'_>; 5]
-    ensures { bound result ≡ entry_row row.now }
+    ensures { bound result ≡ values_of_entry row.now }
 {
     [
         row.branch.to_sql(),
@@ -97,7 +98,7 @@ fn entry_values(row: &EntryRow) -> [ValueRef<'_>; 5]
 /// Inserts an entry.
 pub fn put_entry<S: Alter>(tx: &mut Transaction<'_, S>, row: &EntryRow) -> Result<usize, Error>
     ensures same_reference { tx.new.conn.ghost_name ≡ tx.old.conn.ghost_name }
-    ensures writes { Writes S.Store tx.old.conn.now tx.new.conn.now result (with_entry row.now) }
+    ensures writes { Writes S.Store tx.old.conn.now tx.new.conn.now result (tables_with_entry row.now) }
 {
     let values = entry_values(row);
     tx.execute(

@@ -7,9 +7,10 @@ ghost use Rattle.sqlite.specs.Values.{bound};
 ghost use Rattle.sqlite.specs.State.{KeepsCommit, Survives, IsUnchanged};
 ghost use Rattle.sqlite.specs.Held.{state};
 ghost use Rattle.treasury_tables.specs.declared.change.Change.TheVariants.{Leg as LegChange};
-ghost use Rattle.treasury_tables.specs.Rows.{ShowsTables, Tables, HoldsTables, leg_row, shown_leg, with_leg};
+ghost use Rattle.treasury_tables.specs.Rows.{ShowsTables, Tables, HoldsTables, values_of_leg, shown_leg};
+ghost use Rattle.treasury_tables.specs.Rows.{tables_with_leg};
 ghost use Rattle.treasury_tables.specs.Rows.{written};
-ghost use Rattle.treasury_tables.specs.Tables.{store_schema, leg};
+ghost use Rattle.treasury_tables.specs.Tables.{store_schema, leg_table};
 ghost use Rattle.treasury_tables.specs.Creating.{Creates};
 ghost use Rattle.treasury_tables.specs.Kept.{Queries, Writes, IsFaithful};
 ghost use Rattle.treasury_tables.specs.Order.{InOrder};
@@ -27,7 +28,7 @@ use treasury_state::LegRow;
 /// Makes the table.
 pub(crate) fn create_leg<S: Alter>(tx: &mut Transaction<'_, S>) -> Result<usize, Error>
     ensures same_reference { tx.new.conn.ghost_name ≡ tx.old.conn.ghost_name }
-    ensures creates { Creates S.Store tx.old.conn.now tx.new.conn.now result leg }
+    ensures creates { Creates S.Store tx.old.conn.now tx.new.conn.now result leg_table }
 {
     tx.execute(
         "CREATE TABLE leg (branch INTEGER NOT NULL, entry INTEGER NOT NULL, nr INTEGER NOT NULL, account TEXT NOT NULL, unit INTEGER NOT NULL, qty INTEGER NOT NULL, PRIMARY KEY (branch, entry, nr)) STRICT",
@@ -36,7 +37,7 @@ pub(crate) fn create_leg<S: Alter>(tx: &mut Transaction<'_, S>) -> Result<usize,
 }
 
 impl FromRow for LegRow {
-    ghost columns = { leg_row };
+    ghost columns = { values_of_leg };
 
     ghost front = { λ r. column r 0 ∷ column r 1 ∷ column r 2 ∷ column r 3 ∷ column r 4 ∷ column r 5 ∷ [] };
 
@@ -68,7 +69,7 @@ pub(crate) fn load_legs<S: Alter>(
     ensures shown { IsFaithful S.Store conn.new
         → IfOk result
         (λ rows. (state S.Store conn.old).now.schema ≡ store_schema
-        → IsPermutation (map leg_row rows) (map shown_leg ((state S.Store conn.old).now.trees 8))) }
+        → IsPermutation (map values_of_leg rows) (map shown_leg ((state S.Store conn.old).now.trees 8))) }
     ensures same { IsFaithful S.Store conn.new
         → OnOk result
         ((state S.Store conn.old).now.schema ≡ store_schema
@@ -84,7 +85,7 @@ pub(crate) fn load_legs<S: Alter>(
 
 /// The values of a leg's row, in the order of its columns.
 fn leg_values(row: &LegRow) -> [ValueRef<'_>; 6]
-    ensures { bound result ≡ leg_row row.now }
+    ensures { bound result ≡ values_of_leg row.now }
 {
     [
         row.branch.to_sql(),
@@ -99,7 +100,7 @@ fn leg_values(row: &LegRow) -> [ValueRef<'_>; 6]
 /// Inserts a leg.
 pub fn put_leg<S: Alter>(tx: &mut Transaction<'_, S>, row: &LegRow) -> Result<usize, Error>
     ensures same_reference { tx.new.conn.ghost_name ≡ tx.old.conn.ghost_name }
-    ensures writes { Writes S.Store tx.old.conn.now tx.new.conn.now result (with_leg row.now) }
+    ensures writes { Writes S.Store tx.old.conn.now tx.new.conn.now result (tables_with_leg row.now) }
 {
     let values = leg_values(row);
     tx.execute(

@@ -4,8 +4,8 @@ ghost use Rattle.std.specs.Prelude.{◌≡◌, ◌∷◌, [], map, IfOk, OnOk, I
 ghost use Rattle.sqlite.specs.Order.{column};
 ghost use Rattle.sqlite.specs.State.{IsUnchanged};
 ghost use Rattle.sqlite.specs.Held.{state};
-ghost use Rattle.treasury_tables.specs.Tables.{store_schema, receipt};
-ghost use Rattle.treasury_tables.specs.Rows.{ShowsTables, Tables, part_row, shown_part, with_part};
+ghost use Rattle.treasury_tables.specs.Tables.{store_schema, receipt_table};
+ghost use Rattle.treasury_tables.specs.Rows.{ShowsTables, Tables, values_of_part, shown_part, tables_with_part};
 ghost use Rattle.treasury_tables.specs.Creating.{Creates};
 ghost use Rattle.treasury_tables.specs.Kept.{Queries, Writes, IsFaithful};
 ghost use Rattle.treasury_tables.specs.Order.{InOrder};
@@ -20,7 +20,7 @@ use treasury_state::PartRow;
 /// Makes the table of receipts in parts, which version 2 adds.
 pub(crate) fn create_receipt<S: Alter>(tx: &mut Transaction<'_, S>) -> Result<usize, Error>
     ensures same_reference { tx.new.conn.ghost_name ≡ tx.old.conn.ghost_name }
-    ensures creates { Creates S.Store tx.old.conn.now tx.new.conn.now result receipt }
+    ensures creates { Creates S.Store tx.old.conn.now tx.new.conn.now result receipt_table }
 {
     tx.execute(
         "CREATE TABLE receipt (transfer TEXT NOT NULL, part TEXT NOT NULL, qty INTEGER NOT NULL, received INTEGER NOT NULL, payee TEXT NOT NULL, PRIMARY KEY (transfer, part)) STRICT",
@@ -29,7 +29,7 @@ pub(crate) fn create_receipt<S: Alter>(tx: &mut Transaction<'_, S>) -> Result<us
 }
 
 impl FromRow for PartRow {
-    ghost columns = { part_row };
+    ghost columns = { values_of_part };
 
     ghost front = { λ r. column r 0 ∷ column r 1 ∷ column r 2 ∷ column r 3 ∷ column r 4 ∷ [] };
 
@@ -60,7 +60,7 @@ pub(crate) fn load_receipts<S: Alter>(
     ensures shown { IsFaithful S.Store conn.new
         → IfOk result
         (λ rows. (state S.Store conn.old).now.schema ≡ store_schema
-        → IsPermutation (map part_row rows) (map shown_part ((state S.Store conn.old).now.trees 14))) }
+        → IsPermutation (map values_of_part rows) (map shown_part ((state S.Store conn.old).now.trees 14))) }
     ensures same { IsFaithful S.Store conn.new
         → OnOk result
         ((state S.Store conn.old).now.schema ≡ store_schema
@@ -77,7 +77,7 @@ pub(crate) fn load_receipts<S: Alter>(
 /// Inserts a receipt of a part.
 pub(crate) fn put_part<S: Alter>(tx: &mut Transaction<'_, S>, row: &PartRow) -> Result<usize, Error>
     ensures same_reference { tx.new.conn.ghost_name ≡ tx.old.conn.ghost_name }
-    ensures writes { Writes S.Store tx.old.conn.now tx.new.conn.now result (with_part row.now) }
+    ensures writes { Writes S.Store tx.old.conn.now tx.new.conn.now result (tables_with_part row.now) }
 {
     let transfer = row.transfer.as_str().to_sql();
     let part = row.part.as_str().to_sql();

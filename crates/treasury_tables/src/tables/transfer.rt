@@ -7,9 +7,9 @@ ghost use Rattle.sqlite.specs.Order.{column};
 ghost use Rattle.sqlite.specs.State.{IsUnchanged};
 ghost use Rattle.sqlite.specs.Held.{state};
 ghost use Rattle.sqlite.specs.Values.{or_null};
-ghost use Rattle.treasury_tables.specs.Tables.{store_schema, transfer};
-ghost use Rattle.treasury_tables.specs.Rows.{ShowsTables, Tables, transfer_row, shown_transfer};
-ghost use Rattle.treasury_tables.specs.Rows.{with_transfer, with_receipt};
+ghost use Rattle.treasury_tables.specs.Tables.{store_schema, transfer_table};
+ghost use Rattle.treasury_tables.specs.Rows.{ShowsTables, Tables, values_of_transfer, shown_transfer};
+ghost use Rattle.treasury_tables.specs.Rows.{tables_with_transfer, tables_with_receipt};
 ghost use Rattle.treasury_tables.specs.Creating.{Creates};
 ghost use Rattle.treasury_tables.specs.Kept.{Queries, Writes, IsFaithful};
 ghost use Rattle.treasury_tables.specs.Order.{InOrder};
@@ -24,7 +24,7 @@ use treasury_state::TransferRow;
 /// Makes the table.
 pub(crate) fn create_transfer<S: Alter>(tx: &mut Transaction<'_, S>) -> Result<usize, Error>
     ensures same_reference { tx.new.conn.ghost_name ≡ tx.old.conn.ghost_name }
-    ensures creates { Creates S.Store tx.old.conn.now tx.new.conn.now result transfer }
+    ensures creates { Creates S.Store tx.old.conn.now tx.new.conn.now result transfer_table }
 {
     tx.execute(
         "CREATE TABLE transfer (id TEXT NOT NULL PRIMARY KEY, source INTEGER NOT NULL, target INTEGER NOT NULL, unit INTEGER NOT NULL, qty INTEGER NOT NULL, dispatched INTEGER NOT NULL, payer TEXT NOT NULL, received INTEGER, payee TEXT) STRICT",
@@ -33,7 +33,7 @@ pub(crate) fn create_transfer<S: Alter>(tx: &mut Transaction<'_, S>) -> Result<u
 }
 
 impl FromRow for TransferRow {
-    ghost columns = { transfer_row };
+    ghost columns = { values_of_transfer };
 
     ghost front = { λ r. column r 0 ∷ column r 1 ∷ column r 2 ∷ column r 3 ∷ column r 4 ∷ column r 5 ∷ column r 6
         ∷ column r 7 ∷ column r 8 ∷ [] };
@@ -73,7 +73,7 @@ pub(crate) fn load_transfers<S: Alter>(
     ensures shown { IsFaithful S.Store conn.new
         → IfOk result
         (λ rows. (state S.Store conn.old).now.schema ≡ store_schema
-        → IsPermutation (map transfer_row rows) (map shown_transfer ((state S.Store conn.old).now.trees 12))) }
+        → IsPermutation (map values_of_transfer rows) (map shown_transfer ((state S.Store conn.old).now.trees 12))) }
     ensures same { IsFaithful S.Store conn.new
         → OnOk result
         ((state S.Store conn.old).now.schema ≡ store_schema
@@ -103,7 +103,7 @@ pub(crate) fn put_transfer<S: Alter>(
     row: &TransferRow,
 ) -> Result<usize, Error>
     ensures same_reference { tx.new.conn.ghost_name ≡ tx.old.conn.ghost_name }
-    ensures writes { Writes S.Store tx.old.conn.now tx.new.conn.now result (with_transfer row.now) }
+    ensures writes { Writes S.Store tx.old.conn.now tx.new.conn.now result (tables_with_transfer row.now) }
 {
     let id = row.id.as_str().to_sql();
     let source = row.source.to_sql();
@@ -130,7 +130,7 @@ pub(crate) fn set_receipt<S: Alter>(
     payee: &str,
 ) -> Result<usize, Error>
     ensures same_reference { tx.new.conn.ghost_name ≡ tx.old.conn.ghost_name }
-    ensures writes { Writes S.Store tx.old.conn.now tx.new.conn.now result (with_receipt id.now day payee.now) }
+    ensures writes { Writes S.Store tx.old.conn.now tx.new.conn.now result (tables_with_receipt id.now day payee.now) }
 {
     let key = id.to_sql();
     let received = day.to_sql();

@@ -4,8 +4,8 @@ ghost use Rattle.std.specs.Prelude.{◌≡◌, ◌∷◌, [], map, IfOk, OnOk, I
 ghost use Rattle.sqlite.specs.Order.{column};
 ghost use Rattle.sqlite.specs.State.{IsUnchanged};
 ghost use Rattle.sqlite.specs.Held.{state};
-ghost use Rattle.treasury_tables.specs.Tables.{store_schema, unit};
-ghost use Rattle.treasury_tables.specs.Rows.{ShowsTables, Tables, unit_row, shown_unit, with_unit};
+ghost use Rattle.treasury_tables.specs.Tables.{store_schema, unit_table};
+ghost use Rattle.treasury_tables.specs.Rows.{ShowsTables, Tables, values_of_unit, shown_unit, tables_with_unit};
 ghost use Rattle.treasury_tables.specs.Creating.{Creates};
 ghost use Rattle.treasury_tables.specs.Kept.{Queries, Writes, IsFaithful};
 ghost use Rattle.treasury_tables.specs.Order.{InOrder};
@@ -20,7 +20,7 @@ use treasury_state::UnitRow;
 /// Makes the table.
 pub(crate) fn create_unit<S: Alter>(tx: &mut Transaction<'_, S>) -> Result<usize, Error>
     ensures same_reference { tx.new.conn.ghost_name ≡ tx.old.conn.ghost_name }
-    ensures creates { Creates S.Store tx.old.conn.now tx.new.conn.now result unit }
+    ensures creates { Creates S.Store tx.old.conn.now tx.new.conn.now result unit_table }
 {
     tx.execute(
         "CREATE TABLE unit (nr INTEGER PRIMARY KEY, symbol TEXT NOT NULL UNIQUE, decimals INTEGER NOT NULL, mark TEXT NOT NULL, grouped INTEGER NOT NULL, leftside INTEGER NOT NULL, spaced INTEGER NOT NULL) STRICT",
@@ -29,7 +29,7 @@ pub(crate) fn create_unit<S: Alter>(tx: &mut Transaction<'_, S>) -> Result<usize
 }
 
 impl FromRow for UnitRow {
-    ghost columns = { unit_row };
+    ghost columns = { values_of_unit };
 
     ghost front = { λ r. column r 0 ∷ column r 1 ∷ column r 2 ∷ column r 3 ∷ column r 4 ∷ column r 5 ∷ column r 6
         ∷ [] };
@@ -64,7 +64,7 @@ pub(crate) fn load_units<S: Alter>(
     ensures shown { IsFaithful S.Store conn.new
         → IfOk result
         (λ rows. (state S.Store conn.old).now.schema ≡ store_schema
-        → IsPermutation (map unit_row rows) (map shown_unit ((state S.Store conn.old).now.trees 1))) }
+        → IsPermutation (map values_of_unit rows) (map shown_unit ((state S.Store conn.old).now.trees 1))) }
     ensures same { IsFaithful S.Store conn.new
         → OnOk result
         ((state S.Store conn.old).now.schema ≡ store_schema
@@ -81,7 +81,7 @@ pub(crate) fn load_units<S: Alter>(
 /// Inserts a commodity.
 pub(crate) fn put_unit<S: Alter>(tx: &mut Transaction<'_, S>, row: &UnitRow) -> Result<usize, Error>
     ensures same_reference { tx.new.conn.ghost_name ≡ tx.old.conn.ghost_name }
-    ensures writes { Writes S.Store tx.old.conn.now tx.new.conn.now result (with_unit row.now) }
+    ensures writes { Writes S.Store tx.old.conn.now tx.new.conn.now result (tables_with_unit row.now) }
 {
     let nr = row.nr.to_sql();
     let symbol = row.symbol.as_str().to_sql();

@@ -7,7 +7,7 @@ ghost use Rattle.std.specs.Option.{option_map};
 ghost use Rattle.std.specs.Result.{IsOkUnless};
 ghost use Rattle.book_core.specs.declared.refusal.Refusal.TheVariants.{Plain};
 ghost use Rattle.journal_format.specs.Printable.{IsPrintable};
-ghost use Rattle.journal_balance.specs.Legs.{legs_of};
+ghost use Rattle.journal_balance.specs.Legs.{balanced_entry};
 ghost use Rattle.treasury_state.specs.Mark.{is_product_mark, HaveOwnMarks};
 ghost use Rattle.treasury_state.specs.Federation.{is_locked};
 ghost use Rattle.treasury_state.specs.Transfer.{is_transit};
@@ -15,10 +15,11 @@ ghost use Rattle.treasury_core.specs.Step.{records_in_file, refused_in, unbalanc
 ghost use Rattle.treasury_told.specs.declared.explain.at_fault.Bar.{Bar as Hindrance};
 ghost use Rattle.treasury_told.specs.Shown.{named_text};
 ghost use Rattle.treasury_told.specs.Standing.{located_of, AreStanding};
-ghost use Rattle.treasury_told.specs.AtFault.{holder_of, is_other, transit_in, is_barred, ArePrintable};
-ghost use Rattle.treasury_told.specs.AtFault.{cause_of, IsRefusedAt};
+ghost use Rattle.treasury_told.specs.AtFault.{holder_of, is_other_text, transit_in, is_barred, ArePrintable};
+ghost use Rattle.treasury_told.specs.AtFault.{cause_of_bar, IsRefusedAt};
 ghost use Rattle.treasury_told.specs.Refused.{held_line, record_line, earlier_line, holder_line, maker_line};
-ghost use Rattle.treasury_told.specs.Refused.{transit_text, bar_text, place_text, at_place, IsBarredText, IsFoundAt};
+ghost use Rattle.treasury_told.specs.Refused.{transit_account_text, bar_text, bar_place_text, at_place, IsBarredText};
+ghost use Rattle.treasury_told.specs.Refused.{IsFoundAt};
 
 use crate::explain::held::push_lock;
 use crate::explain::lines::push_source;
@@ -60,8 +61,8 @@ pub enum Bar {
 
 /// The one of a cause.
 pub fn bar_of(cause: Cause) -> Option<Bar>
-    ensures is { (bar : Hindrance) → cause ≡ cause_of bar → result ≡ Some bar }
-    ensures only { IfSome result (λ bar. cause ≡ cause_of bar) }
+    ensures is { (bar : Hindrance) → cause ≡ cause_of_bar bar → result ≡ Some bar }
+    ensures only { IfSome result (λ bar. cause ≡ cause_of_bar bar) }
 {
     match cause {
         Cause::MarkClash => Some(Bar::Clash),
@@ -74,7 +75,7 @@ pub fn bar_of(cause: Cause) -> Option<Bar>
 
 /// The cause of one.
 pub fn cause_of(bar: Bar) -> Cause
-    ensures { result ≡ cause_of bar }
+    ensures { result ≡ cause_of_bar bar }
 {
     match bar {
         Bar::Clash => Cause::MarkClash,
@@ -106,7 +107,7 @@ fn find_transit(legs: &[Leg]) -> Option<&Leg>
 /// The account of the first leg on which only transfers post.
 fn reserved_account(alloc: Global, styles: &Styles, txn: &Txn) -> Result<Option<Text>, Cause>
     requires { IsPrintable styles.now txn.now }
-    ensures value { IfOk result (λ account. account ≡ transit_in (legs_of styles.now txn.now)) }
+    ensures value { IfOk result (λ account. account ≡ transit_in (balanced_entry styles.now txn.now)) }
     ensures memory { IsOkUnless result Cause.OutOfMemory }
 {
     let Some(entry) = entry_of(alloc, styles, txn)? else {
@@ -139,7 +140,7 @@ fn holder_of<'a>(records: &'a [Record], list: &'a [Standing], holder: Holder) ->
 fn is_other(alloc: Global, styles: &Styles, txn: &Txn, held: Option<&Txn>) -> Result<bool, Cause>
     requires own { IsPrintable styles.now txn.now }
     requires held { IfSome held (λ t. IsPrintable styles.now t.now) }
-    ensures value { IfOk result (λ is. is ≡ is_other styles.now txn.now (option_map (λ t. t.now) held.entry)) }
+    ensures value { IfOk result (λ is. is ≡ is_other_text styles.now txn.now (option_map (λ t. t.now) held.entry)) }
     ensures memory { IsOkUnless result Cause.OutOfMemory }
 {
     match held {
@@ -219,9 +220,9 @@ pub fn barred_place(
     ensures decides { AreStanding styles.now records.now [] list.now → HaveOwnMarks records.now
         → unbalanced styles.now (located_of list.now) ≡ None
         → refused_in styles.now lock records.now (records_in_file styles.now (located_of list.now))
-        ≡ Some (Plain (cause_of bar))
+        ≡ Some (Plain (cause_of_bar bar))
         → IfOk result (λ place. (i : ℕ) × (place ≡ Some i)
-        × IsRefusedAt styles.now lock records.now (located_of list.now) i (cause_of bar)) }
+        × IsRefusedAt styles.now lock records.now (located_of list.now) i (cause_of_bar bar)) }
     ensures memory { IsOkUnless result Cause.OutOfMemory }
 {
     for (place, standing) in list.iter().enumerate() {
@@ -317,7 +318,7 @@ fn maker_of(mark: &str) -> &'static [u8]
 
 /// Appends an account on which only transfers post.
 fn push_transit(account: &Text, out: &mut Vec<u8>) -> Result<(), Cause>
-    ensures value { OnOk result (out.new.items ≡ out.old.items ++ transit_text (Some account.now)) }
+    ensures value { OnOk result (out.new.items ≡ out.old.items ++ transit_account_text (Some account.now)) }
     ensures memory { IsOkUnless result Cause.OutOfMemory }
 {
     push_named(b"account", account.as_str().as_bytes(), out)?;
@@ -356,7 +357,7 @@ fn push_own_mark(mark: &str, out: &mut Vec<u8>) -> Result<(), Cause>
 fn push_reserved(alloc: Global, styles: &Styles, txn: &Txn, out: &mut Vec<u8>) -> Result<(), Cause>
     requires { IsPrintable styles.now txn.now }
     ensures value { OnOk result (out.new.items
-        ≡ out.old.items ++ transit_text (transit_in (legs_of styles.now txn.now))) }
+        ≡ out.old.items ++ transit_account_text (transit_in (balanced_entry styles.now txn.now))) }
     ensures memory { IsOkUnless result Cause.OutOfMemory }
 {
     match reserved_account(alloc, styles, txn) {
@@ -405,7 +406,7 @@ fn push_place<L: Ledger>(
 ) -> Result<(), Cause>
     requires { IsPrintable state.now.styles standing.now.txn }
     ensures value { OnOk result (out.new.items ≡ out.old.items
-        ++ place_text state.now request.now source.now text.now records.now list.now bar standing.now) }
+        ++ bar_place_text state.now request.now source.now text.now records.now list.now bar standing.now) }
     ensures memory { IsOkUnless result Cause.OutOfMemory }
 {
     let mut origin = Vec::new(alloc);

@@ -5,13 +5,14 @@ ghost use Rattle.std.specs.List.{AllByRecursion};
 ghost use Rattle.std.specs.Option.{option_map};
 ghost use Rattle.std.specs.Result.{IsOkUnless};
 ghost use Rattle.journal_format.specs.Printable.{IsPrintable};
-ghost use Rattle.journal_balance.specs.Legs.{legs_of};
+ghost use Rattle.journal_balance.specs.Legs.{balanced_entry};
 ghost use Rattle.treasury_state.specs.Federation.{records_of};
 ghost use Rattle.treasury_told.specs.Standing.{entry_in};
-ghost use Rattle.treasury_told.specs.Failure.{leg_of, account_text, entry_line, held_text, new_text, difference};
+ghost use Rattle.treasury_told.specs.Failure.{leg_of, account_text, entry_header_line, held_claim_text, new_claim_text};
+ghost use Rattle.treasury_told.specs.Failure.{difference};
 ghost use Rattle.treasury_told.specs.Failure.{amounts_text};
-ghost use Rattle.treasury_told.specs.Failure.{list_text, touching_leg, watched_in, found_text, failure_text};
-ghost use Rattle.treasury_told.specs.Failure.{judged_branch, journal_of, text_in};
+ghost use Rattle.treasury_told.specs.Failure.{touching_list_text, touching_leg, watched_in, found_text, failure_text};
+ghost use Rattle.treasury_told.specs.Failure.{judged_branch, journal_asked, text_in};
 ghost use Rattle.treasury_told.specs.Failure.{AreFound, TellsFailure};
 
 use crate::explain::lines::push_source;
@@ -43,7 +44,7 @@ fn judged_branch(request: &Request) -> &str
 
 /// The text of a request, if it has one.
 fn journal_of(request: &Request) -> Option<&[u8]>
-    ensures { option_map (λ journal. journal.now) result ≡ journal_of request.now }
+    ensures { option_map (λ journal. journal.now) result ≡ journal_asked request.now }
 {
     match request {
         Request::Import { journal, .. } => Some(journal.as_bytes()),
@@ -84,7 +85,7 @@ fn push_entry(
     tail: &[u8],
     out: &mut Vec<u8>,
 ) -> Result<(), Cause>
-    ensures value { OnOk result (out.new.items ≡ out.old.items ++ entry_line number txn.now tail.now) }
+    ensures value { OnOk result (out.new.items ≡ out.old.items ++ entry_header_line number txn.now tail.now) }
     ensures memory { IsOkUnless result Cause.OutOfMemory }
 {
     out.extend_from_slice(b"  entry: ")?;
@@ -144,7 +145,7 @@ fn transactions_of(
 }
 
 /// Appends the sentence and the place of a new transaction's assertion.
-#[tactic(auto, unfolding(crate::specs::Failure::new_text))]
+#[tactic(auto, unfolding(crate::specs::Failure::new_claim_text))]
 fn push_new(
     alloc: Global,
     styles: &Styles,
@@ -155,8 +156,8 @@ fn push_new(
     failure: &Failure,
     out: &mut Vec<u8>,
 ) -> Result<(), Cause>
-    requires { option_map (λ e. e.now) entry ≡ entry_in (legs_of styles.now standing.now.txn) }
-    ensures value { OnOk result (out.new.items ≡ out.old.items ++ new_text styles.now source.now text.now
+    requires { option_map (λ e. e.now) entry ≡ entry_in (balanced_entry styles.now standing.now.txn) }
+    ensures value { OnOk result (out.new.items ≡ out.old.items ++ new_claim_text styles.now source.now text.now
         failure.now.place.entry failure.now.place.leg standing.now) }
     ensures memory { IsOkUnless result Cause.OutOfMemory }
 {
@@ -175,10 +176,10 @@ fn push_new(
 }
 
 /// Appends the sentence and the place of an assertion that the branch holds.
-#[tactic(auto, unfolding(crate::specs::Failure::held_text))]
+#[tactic(auto, unfolding(crate::specs::Failure::held_claim_text))]
 fn push_held(alloc: Global, row: &Record, failure: &Failure, out: &mut Vec<u8>) -> Result<(), Cause>
     ensures value { OnOk result (out.new.items
-        ≡ out.old.items ++ held_text failure.now.place.entry failure.now.place.leg row.now) }
+        ≡ out.old.items ++ held_claim_text failure.now.place.entry failure.now.place.leg row.now) }
     ensures memory { IsOkUnless result Cause.OutOfMemory }
 {
     push_sentence(b"", Cause::ClaimFailed, out)?;
@@ -209,7 +210,7 @@ fn push_touching_leg(
     out: &mut Vec<u8>,
 ) -> Result<(), Cause>
     requires { AllByRecursion (λ s. IsPrintable styles.now s.txn) list.now }
-    ensures value { OnOk result (out.new.items ≡ out.old.items ++ list_text styles.now records.now source.now
+    ensures value { OnOk result (out.new.items ≡ out.old.items ++ touching_list_text styles.now records.now source.now
         (touching_leg styles.now records.now list.now
         (watched_in (option_map (λ e. e.now) entry.entry) failure.now.place.leg) failure.now.place)) }
     ensures memory { IsOkUnless result Cause.OutOfMemory }

@@ -4,7 +4,7 @@ ghost use Rattle.std.specs.Prelude.{◌≡◌, ◌++◌, false, OnOk};
 ghost use Rattle.std.specs.Option.{option_map};
 ghost use Rattle.std.specs.Result.{IsOkUnless};
 ghost use Rattle.treasury_told.specs.Detail.{has_detail};
-ghost use Rattle.treasury_told.specs.Lock.{branch_of, close_hint, locked_line, lock_text};
+ghost use Rattle.treasury_told.specs.Lock.{branch_asked, close_hint, locked_line, lock_text};
 
 use crate::explain::hints::{push_amount_form, push_sample, push_sample_form, push_samples};
 use crate::explain::pieces::push_day;
@@ -37,7 +37,7 @@ const CLOSE_FIRST: &[u8] =
 
 /// The branch that a request takes entries into, or locks.
 fn branch_of(request: &Request) -> Option<&Text>
-    ensures { option_map (λ name. name.now) result ≡ branch_of request.now }
+    ensures { option_map (λ name. name.now) result ≡ branch_asked request.now }
 {
     match request {
         Request::Import { branch, .. } => Some(branch),

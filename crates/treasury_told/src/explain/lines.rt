@@ -6,9 +6,10 @@ ghost use Rattle.std.specs.Result.{IsOkUnless};
 ghost use Rattle.journal_lines.specs.LineKind.{kind_of};
 ghost use Rattle.journal_lines.specs.Lines.{lines};
 ghost use Rattle.journal_format.specs.PostingForm.{claim_sign};
-ghost use Rattle.journal_format.specs.PostingParts.{outside, before_mark, from_mark, kind_at, name_of, part_of};
-ghost use Rattle.journal_format.specs.PostingParts.{amount_in, price_in, claim_in, asserted_in};
-ghost use Rattle.treasury_told.specs.Numbered.{numbered};
+ghost use Rattle.journal_format.specs.PostingParts.{outside, before_mark, from_mark, kind_at, account_name_of};
+ghost use Rattle.journal_format.specs.PostingParts.{amount_part_of};
+ghost use Rattle.journal_format.specs.PostingParts.{amount_text_in, price_text_in, claim_in, asserted_in};
+ghost use Rattle.treasury_told.specs.Numbered.{item_of_number};
 ghost use Rattle.treasury_told.specs.Pieces.{numbered_line, source_line};
 ghost use Rattle.treasury_told.specs.OddAmount.{is_inner, is_posting_line};
 
@@ -29,7 +30,7 @@ pub struct PostingParts<'a> {
 
 /// The line of that number.
 pub fn line_at(text: &[u8], line: usize) -> Option<&[u8]>
-    ensures { option_map (λ l. l.now) result ≡ numbered (lines text.now) line }
+    ensures { option_map (λ l. l.now) result ≡ item_of_number (lines text.now) line }
 {
     for (number, bytes) in Lines::new(text) {
         if number == line {
@@ -89,8 +90,8 @@ pub fn is_posting(line: &[u8]) -> bool
 
 /// The parts of a posting's line.
 pub fn posting_parts(line: &[u8]) -> PostingParts<'_>
-    ensures name { result.name.now ≡ name_of line.now }
-    ensures rest { result.rest.now ≡ part_of line.now }
+    ensures name { result.name.now ≡ account_name_of line.now }
+    ensures rest { result.rest.now ≡ amount_part_of line.now }
 {
     let text = behind_status(trim_start(front_of(line)));
     let end = name_end(text);
@@ -179,8 +180,8 @@ pub fn asserted_in(claim: &[u8]) -> &[u8]
 
 /// The amounts of a posting's line, by what follows the account's name.
 pub fn amounts_of(rest: &[u8]) -> Amounts<'_>
-    ensures amount { result.amount.now ≡ amount_in rest.now }
-    ensures price { result.price.now ≡ price_in rest.now }
+    ensures amount { result.amount.now ≡ amount_text_in rest.now }
+    ensures price { result.price.now ≡ price_text_in rest.now }
     ensures claim { result.claim.now ≡ claim_in rest.now }
 {
     let (value, claim) = cut_at(rest, b'=');

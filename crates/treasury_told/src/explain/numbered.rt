@@ -2,7 +2,7 @@
 
 ghost use Rattle.std.specs.Prelude.{◌≡◌, slice_get};
 ghost use Rattle.std.specs.Option.{option_map};
-ghost use Rattle.treasury_told.specs.Numbered.{numbered, new_of, view_of, entries_with};
+ghost use Rattle.treasury_told.specs.Numbered.{item_of_number, new_of, view_of, entries_with};
 
 use crate::explain::standing::Standing;
 use book_core::{Entry, Leg};
@@ -24,7 +24,7 @@ pub fn record_at(records: &[Record], place: usize) -> Option<&Record>
 
 /// The record of that number.
 fn held_at(records: &[Record], number: usize) -> Option<&Record>
-    ensures { option_map (λ r. r.now) result ≡ numbered records.now number }
+    ensures { option_map (λ r. r.now) result ≡ item_of_number records.now number }
 {
     match number {
         0 => None,
@@ -34,7 +34,7 @@ fn held_at(records: &[Record], number: usize) -> Option<&Record>
 
 /// The new one of that number among the transactions of a text.
 fn new_at(list: &[Standing], number: usize) -> Option<&Standing>
-    ensures { option_map (λ s. s.now) result ≡ numbered (new_of list.now) number }
+    ensures { option_map (λ s. s.now) result ≡ item_of_number (new_of list.now) number }
 {
     let mut left = number;
     for standing in list {
@@ -54,7 +54,7 @@ pub fn entry_at<'a>(
     list: &'a [Standing],
     number: usize,
 ) -> Option<Numbered<'a>>
-    ensures { option_map view_of result ≡ numbered (entries_with records.now list.now) number }
+    ensures { option_map view_of result ≡ item_of_number (entries_with records.now list.now) number }
 {
     if number <= records.len() {
         return match held_at(records, number) {
@@ -70,7 +70,7 @@ pub fn entry_at<'a>(
 
 /// The leg of that number.
 pub fn leg_at(entry: &Entry, number: usize) -> Option<&Leg>
-    ensures { option_map (λ l. l.now) result ≡ numbered entry.now.legs number }
+    ensures { option_map (λ l. l.now) result ≡ item_of_number entry.now.legs number }
 {
     match number {
         0 => None,

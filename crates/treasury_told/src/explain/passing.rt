@@ -10,9 +10,10 @@ ghost use Rattle.book_core.specs.Balance.{moved};
 ghost use Rattle.book_core.specs.GoodBook.{HasRoom};
 ghost use Rattle.journal_format.specs.Printable.{IsPrintable};
 ghost use Rattle.treasury_state.specs.Federation.{entries};
-ghost use Rattle.treasury_told.specs.Passing.{commodity_line, turnover_text, passing_text, passing_at, sum_at};
-ghost use Rattle.treasury_told.specs.Passing.{with_leg, entry_list, exceeds_text, limit_text};
-ghost use Rattle.treasury_told.specs.Passing.{counted, AreTurnovers, IsFirstOver, adds, IsPlaced, IsPassedText};
+ghost use Rattle.treasury_told.specs.Passing.{commodity_line, turnover_text, passing_text, passing_at, turnover_at};
+ghost use Rattle.treasury_told.specs.Passing.{turnovers_with_leg, entry_list, exceeds_text, limit_text};
+ghost use Rattle.treasury_told.specs.Passing.{capped_turnover, AreTurnovers, IsFirstOver, adds, IsPlaceOfPassing};
+ghost use Rattle.treasury_told.specs.Passing.{IsPassedText};
 ghost use Rattle.treasury_told.specs.Passing.{IsPassedAt};
 
 use crate::explain::lines::push_source;
@@ -35,9 +36,9 @@ pub struct Passing {
 }
 
 /// Adds what a leg moves to the turnover in its commodity.
-#[tactic(auto, unfolding(crate::specs::Passing::with_leg))]
+#[tactic(auto, unfolding(crate::specs::Passing::turnovers_with_leg))]
 fn add_leg(turnover: &mut Vec<u64>, leg: &Leg)
-    ensures { turnover.new.items ≡ with_leg turnover.old.items leg.now }
+    ensures { turnover.new.items ≡ turnovers_with_leg turnover.old.items leg.now }
 {
     let at = usize::from(leg.unit.0);
     if at < turnover.len() {
@@ -48,7 +49,8 @@ fn add_leg(turnover: &mut Vec<u64>, leg: &Leg)
 /// Adds what legs move to the turnover in each commodity.
 fn add_legs(turnover: &mut Vec<u64>, legs: &[Leg])
     ensures moved { (u : Commodity) → u.0 < length turnover.old.items
-        → counted (sum_at turnover.new.items u) ≡ counted (sum_at turnover.old.items u + moved u legs.now) }
+        → capped_turnover (turnover_at turnover.new.items u)
+        ≡ capped_turnover (turnover_at turnover.old.items u + moved u legs.now) }
     ensures len { length turnover.new.items ≡ length turnover.old.items }
 {
     for leg in legs {
@@ -129,7 +131,7 @@ fn passing_place(
 ) -> Result<Option<(usize, Unit)>, Cause>
     requires printable { AllByRecursion (λ s. IsPrintable styles.now s.txn) list.now }
     requires room { HasRoom (entries records.now) }
-    ensures value { IfOk result (λ passing. IsPlaced styles.now records.now list.now passing) }
+    ensures value { IfOk result (λ passing. IsPlaceOfPassing styles.now records.now list.now passing) }
     ensures memory { IsOkUnless result Cause.OutOfMemory }
 {
     let mut turnover = turnover_of(alloc, styles, records)?;

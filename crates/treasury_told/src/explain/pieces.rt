@@ -5,7 +5,7 @@ ghost use Rattle.std.specs.Result.{IsOkUnless};
 ghost use Rattle.std.specs.Option.{option_map};
 ghost use Rattle.journal_lines.specs.Printed.{header_status, header_code};
 ghost use Rattle.treasury_told.specs.Shown.{shown_text};
-ghost use Rattle.treasury_told.specs.Pieces.{is_written, shown_amount, named_amount, shown_day, shown_behind};
+ghost use Rattle.treasury_told.specs.Pieces.{is_printable_amount, shown_amount, named_amount, shown_day, shown_behind};
 ghost use Rattle.treasury_told.specs.Pieces.{header_text};
 
 use crate::explain::shown::push_shown;
@@ -16,7 +16,7 @@ use std::alloc::Global;
 
 /// Whether a text writes the amount.
 fn is_written(styles: &Styles, unit: Unit, qty: i64) -> bool
-    ensures { result ≡ is_written styles.now unit qty }
+    ensures { result ≡ is_printable_amount styles.now unit qty }
 {
     is_declared(unit, qty, styles)
 }

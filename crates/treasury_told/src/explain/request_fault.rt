@@ -2,13 +2,14 @@
 
 ghost use Rattle.std.specs.Prelude.{◌≡◌, ◌++◌, Option, OnOk};
 ghost use Rattle.std.specs.Result.{IsOkUnless};
-ghost use Rattle.treasury_told.specs.RequestFaults.{kind_text, place_text, key_text, keys_text};
-ghost use Rattle.treasury_told.specs.RequestFaults.{word_text, words_text, further_text, request_text};
-ghost use Rattle.treasury_told.specs.RequestFaults.{json_text, odd_text, other_text};
+ghost use Rattle.treasury_told.specs.RequestFaults.{kind_text, byte_place_text, key_text, keys_text};
+ghost use Rattle.treasury_told.specs.RequestFaults.{word_text, words_text, further_text, word_keys_text};
+ghost use Rattle.treasury_told.specs.RequestFaults.{json_text, not_string_text, other_text};
 ghost use Rattle.treasury_told.specs.RequestFaults.{missing_key_text, missing_text, there_text, alone_text, half_text};
-ghost use Rattle.treasury_told.specs.RequestFaults.{utf8_text, no_object_text, day_text, choice_text, unknown_text};
+ghost use Rattle.treasury_told.specs.RequestFaults.{utf8_text, no_object_text, day_text, choice_text};
+ghost use Rattle.treasury_told.specs.RequestFaults.{unknown_word_text};
 ghost use Rattle.treasury_told.specs.RequestFaults.{fault_text, told_of};
-ghost use Rattle.treasury_requests.specs.RequestFault.{IsFirstFault};
+ghost use Rattle.treasury_requests.specs.RequestFault.{IsFirstRequestFault};
 ghost use Rattle.treasury_requests.specs.declared.fault.RequestFault.{RequestFault};
 
 use crate::explain::push_sentence;
@@ -37,7 +38,7 @@ fn kind_text(kind: Kind) -> &'static [u8]
 
 /// Appends a place: a byte, and the line in which it stands unless that is the first.
 fn push_place(line: usize, byte: usize, out: &mut Vec<u8>) -> Result<(), Cause>
-    ensures value { OnOk result (out.new.items ≡ out.old.items ++ place_text line byte) }
+    ensures value { OnOk result (out.new.items ≡ out.old.items ++ byte_place_text line byte) }
     ensures memory { IsOkUnless result Cause.OutOfMemory }
 {
     out.extend_from_slice(b"byte ")?;
@@ -104,9 +105,9 @@ fn push_further(keys: &[Key], out: &mut Vec<u8>) -> Result<(), Cause>
 }
 
 /// Appends a line with the keys of the request of a word.
-#[tactic(auto, unfolding(crate::specs::RequestFaults::request_text))]
+#[tactic(auto, unfolding(crate::specs::RequestFaults::word_keys_text))]
 fn push_request(word: Word, out: &mut Vec<u8>) -> Result<(), Cause>
-    ensures value { OnOk result (out.new.items ≡ out.old.items ++ request_text word) }
+    ensures value { OnOk result (out.new.items ≡ out.old.items ++ word_keys_text word) }
     ensures memory { IsOkUnless result Cause.OutOfMemory }
 {
     out.extend_from_slice(b"  keys of ")?;
@@ -137,7 +138,7 @@ fn push_json(line: usize, byte: usize, is_cut_off: bool, out: &mut Vec<u8>) -> R
 
 /// Appends that a value has to be a string, and is something else.
 fn push_odd(name: &str, kind: Kind, out: &mut Vec<u8>) -> Result<(), Cause>
-    ensures value { OnOk result (out.new.items ≡ out.old.items ++ odd_text name.now kind) }
+    ensures value { OnOk result (out.new.items ≡ out.old.items ++ not_string_text name.now kind) }
     ensures memory { IsOkUnless result Cause.OutOfMemory }
 {
     out.extend_from_slice(b"  ")?;
@@ -182,7 +183,7 @@ fn push_missing(word: Word, key: Key, other: &Option<Text>, out: &mut Vec<u8>) -
 
 /// Appends that `do` has a value that asks for nothing, and which ask for something.
 fn push_unknown(text: &Text, out: &mut Vec<u8>) -> Result<(), Cause>
-    ensures value { OnOk result (out.new.items ≡ out.old.items ++ unknown_text text.now) }
+    ensures value { OnOk result (out.new.items ≡ out.old.items ++ unknown_word_text text.now) }
     ensures memory { IsOkUnless result Cause.OutOfMemory }
 {
     push_named(b"unknown do", text.as_str().as_bytes(), out)?;
@@ -298,7 +299,7 @@ pub fn push_request_fault(fault: &RequestFault, out: &mut Vec<u8>) -> Result<(),
 /// Appends what is said of bytes that are no request, in lines: which fault they have first. Of a request it appends
 /// nothing. Where memory is refused, it answers 40, and a first part is appended.
 pub fn push_fault_of(alloc: Global, line: &[u8], out: &mut Vec<u8>) -> Result<(), Cause>
-    ensures value { OnOk result ((fault : Option RequestFault) × IsFirstFault line.now fault
+    ensures value { OnOk result ((fault : Option RequestFault) × IsFirstRequestFault line.now fault
         × (out.new.items ≡ out.old.items ++ told_of fault)) }
     ensures memory { IsOkUnless result Cause.OutOfMemory }
 {

@@ -15,10 +15,10 @@ ghost use Rattle.journal_format.specs.CanonicalText.{body_text};
 ghost use Rattle.journal_format.specs.Fault.{IsFirstFault};
 ghost use Rattle.journal_format.specs.Pieces.{Reads};
 ghost use Rattle.journal_format.specs.Printable.{IsPrintable};
-ghost use Rattle.journal_balance.specs.Legs.{legs_of};
+ghost use Rattle.journal_balance.specs.Legs.{balanced_entry};
 ghost use Rattle.treasury_state.specs.Federation.{has_name, lock_of, records_of};
 ghost use Rattle.treasury_state.specs.Index.{IsIndexOf};
-ghost use Rattle.treasury_state.specs.Mark.{mark_of};
+ghost use Rattle.treasury_state.specs.Mark.{transaction_mark};
 ghost use Rattle.treasury_state.specs.Seen.{branch_of, branches_of};
 ghost use Rattle.treasury_core.specs.Counted.{count_of, counted_more, AreCounted};
 ghost use Rattle.treasury_core.specs.Step.{number_in};
@@ -141,7 +141,8 @@ fn mark_in_text(
     requires printable { IsPrintable styles.now txn.now }
     requires few { (text : Bytes ℕ) → count_of counts.old text + 1 < 2 ^ 64 }
     ensures value { (before : List Transaction) → AreCounted styles.now counts.old before
-        → IfOk result (λ mark. mark ≡ mark_of styles.now txn.now (number_in styles.now before txn.now) txn.now.mark) }
+        → IfOk result (λ mark. mark
+        ≡ transaction_mark styles.now txn.now (number_in styles.now before txn.now) txn.now.mark) }
     ensures counted { (before : List Transaction) → AreCounted styles.now counts.old before
         → OnOk result (AreCounted styles.now counts.new (before ++ txn.now ∷ [])) }
     ensures memory { IsOkUnless result Cause.OutOfMemory }
@@ -262,7 +263,7 @@ pub fn standings(
 /// The entry of a transaction, if it has one.
 pub fn entry_of(alloc: Global, styles: &Styles, txn: &Txn) -> Result<Option<Entry>, Cause>
     requires { IsPrintable styles.now txn.now }
-    ensures value { IfOk result (λ entry. entry ≡ entry_in (legs_of styles.now txn.now)) }
+    ensures value { IfOk result (λ entry. entry ≡ entry_in (balanced_entry styles.now txn.now)) }
     ensures memory { IsOkUnless result Cause.OutOfMemory }
 {
     match legs(alloc, txn, styles) {

@@ -9,12 +9,13 @@ ghost use Rattle.book_core.specs.Book.{posted_legs};
 ghost use Rattle.book_core.specs.Claim.{reach_of};
 ghost use Rattle.book_core.specs.Place.{place_le};
 ghost use Rattle.journal_format.specs.Printable.{IsPrintable};
-ghost use Rattle.journal_balance.specs.Legs.{legs_of};
+ghost use Rattle.journal_balance.specs.Legs.{balanced_entry};
 ghost use Rattle.treasury_told.specs.Standing.{entry_in, is_nobody};
-ghost use Rattle.treasury_told.specs.Failure.{reach_on, watched_of, is_seen, touches, touches_in, touching};
+ghost use Rattle.treasury_told.specs.Failure.{reach_on, watched_of, is_seen, touches_watched, touches_in, touching};
 ghost use Rattle.treasury_told.specs.Failure.{same_legs, has_legs_of, same_status, same_code, same_header};
 ghost use Rattle.treasury_told.specs.Failure.{legs_place, header_place, legs_place_in, shared_line, record_text};
-ghost use Rattle.treasury_told.specs.Failure.{shared_text, touching_text, list_text, more_text, most_listed};
+ghost use Rattle.treasury_told.specs.Failure.{shared_text, touching_text, touching_list_text, more_new_text};
+ghost use Rattle.treasury_told.specs.Failure.{most_listed};
 ghost use Rattle.treasury_told.specs.Numbered.{new_of};
 
 use crate::explain::numbered::{leg_at, record_at};
@@ -119,9 +120,9 @@ impl Watched {
     }
 
     /// Whether the entry of that number has a leg that the assertion looks at, before the assertion's place.
-    #[tactic(auto, unfolding(crate::specs::Failure::touches))]
+    #[tactic(auto, unfolding(crate::specs::Failure::touches_watched))]
     fn is_touched_by(&self, entry: &Entry, number: usize, end: Place) -> bool
-        ensures { result ≡ touches self.now end number entry.now }
+        ensures { result ≡ touches_watched self.now end number entry.now }
     {
         self.sees_any(entry.day, entry.legs.items(), number, end)
     }
@@ -138,7 +139,7 @@ fn is_touching(
 ) -> Result<bool, Cause>
     requires { IsPrintable styles.now txn.now }
     ensures value { IfOk result
-        (λ is. is ≡ touches_in watched.now end number (entry_in (legs_of styles.now txn.now))) }
+        (λ is. is ≡ touches_in watched.now end number (entry_in (balanced_entry styles.now txn.now))) }
     ensures memory { IsOkUnless result Cause.OutOfMemory }
 {
     match entry_of(alloc, styles, txn) {
@@ -176,7 +177,7 @@ fn take_new<'a>(
     ensures next { IfOk result (λ next. next ≡ (if is_nobody standing.now.holder then number + 1 else number)) }
     ensures found { OnOk result (map (λ s. s.now) found.new.items ≡ map (λ s. s.now) found.old.items
         ++ (if is_nobody standing.now.holder
-        && touches_in watched.now end number (entry_in (legs_of styles.now standing.now.txn))
+        && touches_in watched.now end number (entry_in (balanced_entry styles.now standing.now.txn))
         then standing.now ∷ [] else [])) }
     ensures memory { IsOkUnless result Cause.OutOfMemory }
 {
@@ -334,7 +335,7 @@ fn shared_legs(
 ) -> Result<Option<usize>, Cause>
     requires { IsPrintable styles.now txn.now }
     ensures value { IfOk result
-        (λ place. place ≡ legs_place_in records.now (entry_in (legs_of styles.now txn.now))) }
+        (λ place. place ≡ legs_place_in records.now (entry_in (balanced_entry styles.now txn.now))) }
     ensures memory { IsOkUnless result Cause.OutOfMemory }
 {
     match entry_of(alloc, styles, txn) {
@@ -389,7 +390,7 @@ fn push_touching(
 
 /// Appends how many there are beside those that are listed.
 fn push_more(count: usize, out: &mut Vec<u8>) -> Result<(), Cause>
-    ensures value { OnOk result (out.new.items ≡ out.old.items ++ more_text count) }
+    ensures value { OnOk result (out.new.items ≡ out.old.items ++ more_new_text count) }
     ensures memory { IsOkUnless result Cause.OutOfMemory }
 {
     if count <= MOST {
@@ -439,7 +440,7 @@ pub fn push_list(
 ) -> Result<(), Cause>
     requires { AllByRecursion (λ s. IsPrintable styles.now s.now.txn) new.now }
     ensures value { OnOk result (out.new.items
-        ≡ out.old.items ++ list_text styles.now records.now source.now (map (λ s. s.now) new.now)) }
+        ≡ out.old.items ++ touching_list_text styles.now records.now source.now (map (λ s. s.now) new.now)) }
     ensures memory { IsOkUnless result Cause.OutOfMemory }
 {
     let listed = first_few(new);

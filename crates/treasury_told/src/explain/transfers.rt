@@ -4,9 +4,9 @@ ghost use Rattle.std.specs.Prelude.{◌≡◌, ◌-ℤ◌, true, ◌++◌, find,
 ghost use Rattle.std.specs.Option.{option_map};
 ghost use Rattle.std.specs.Result.{IsOkUnless};
 ghost use Rattle.treasury_state.specs.Good.{HasGoodParts};
-ghost use Rattle.treasury_state.specs.Transfer.{has_id, is_key, left_of, receipts_of, sum_of};
+ghost use Rattle.treasury_state.specs.Transfer.{has_id, is_key, left_of, receipts_of, sum_of_parts};
 ghost use Rattle.treasury_core.specs.Step.{has_key};
-ghost use Rattle.treasury_told.specs.HeldTransfer.{id_of, part_of, transfer_in, left_line};
+ghost use Rattle.treasury_told.specs.HeldTransfer.{id_asked, part_asked, transfer_in, left_line};
 
 use crate::explain::pieces::{push_amount, push_day, push_named_amount};
 use crate::explain::shown::{push_line, push_named, push_shown};
@@ -26,7 +26,7 @@ const MAX_ID: usize = 64;
 
 /// The ID of the transfer that a request is on.
 fn id_of(request: &Request) -> Option<&Text>
-    ensures { option_map (λ id. id.now) result ≡ id_of request.now }
+    ensures { option_map (λ id. id.now) result ≡ id_asked request.now }
 {
     match request {
         Request::Dispatch { id, .. } => Some(id),
@@ -37,7 +37,7 @@ fn id_of(request: &Request) -> Option<&Text>
 
 /// The part of a request.
 pub fn part_of(request: &Request) -> Option<&WrittenPart>
-    ensures { option_map (λ part. part.now) result ≡ part_of request.now }
+    ensures { option_map (λ part. part.now) result ≡ part_asked request.now }
 {
     match request {
         Request::Receive { part, .. } => part.as_ref(),
@@ -92,7 +92,7 @@ fn push_transfer(
 /// What the parts of a transfer leave of its amount.
 fn rest_of(transfer: &Transfer) -> i64
     requires { HasGoodParts transfer.now }
-    ensures { result ≡ transfer.now.qty -ℤ sum_of transfer.now.parts }
+    ensures { result ≡ transfer.now.qty -ℤ sum_of_parts transfer.now.parts }
 {
     let mut left = transfer.qty;
     'part: for part in transfer.parts.items() {
@@ -220,7 +220,7 @@ fn first_with<'a>(transfers: &'a [Transfer], id: &str) -> Option<&'a Transfer>
 
 /// The transfer that a request is on.
 pub fn transfer_of<'a, L: Ledger>(state: &'a State<L>, request: &Request) -> Option<&'a Transfer>
-    ensures value { option_map (λ t. t.now) result ≡ transfer_in state.now (id_of request.now) }
+    ensures value { option_map (λ t. t.now) result ≡ transfer_in state.now (id_asked request.now) }
     ensures good { IfSome result (λ t. HasGoodParts t.now) }
 {
     state.is_good();

@@ -7,7 +7,7 @@ ghost use Rattle.std.specs.Result.{IsOkUnless};
 ghost use Rattle.std.specs.Str.{bytes_eq};
 ghost use Rattle.treasury_told.specs.Listed.{listed};
 ghost use Rattle.treasury_told.specs.NewAccount.{posts_to, has_leg_on, is_new_account, has_imported};
-ghost use Rattle.treasury_told.specs.NewAccount.{between, unknown_text};
+ghost use Rattle.treasury_told.specs.NewAccount.{between, unknown_account_text};
 
 use crate::explain::at_fault::is_own_mark;
 use crate::explain::lines::{is_posting, posting_parts};
@@ -329,9 +329,9 @@ pub fn push_between(
 }
 
 /// Appends the note of a listed account that a branch does not have.
-#[tactic(auto, unfolding(crate::specs::NewAccount::unknown_text))]
+#[tactic(auto, unfolding(crate::specs::NewAccount::unknown_account_text))]
 fn push_no_account(name: &str, branch: &str, out: &mut Vec<u8>) -> Result<(), Cause>
-    ensures value { OnOk result (out.new.items ≡ out.old.items ++ unknown_text branch.now name.now) }
+    ensures value { OnOk result (out.new.items ≡ out.old.items ++ unknown_account_text branch.now name.now) }
     ensures memory { IsOkUnless result Cause.OutOfMemory }
 {
     push_between(
@@ -347,7 +347,7 @@ fn push_no_account(name: &str, branch: &str, out: &mut Vec<u8>) -> Result<(), Ca
 #[tactic(auto, unfolding(crate::specs::Listed::listed))]
 pub fn push_unknown(found: &[&str], branch: &str, out: &mut Vec<u8>) -> Result<(), Cause>
     ensures value { OnOk result (out.new.items
-        ≡ out.old.items ++ listed MOST (λ name. unknown_text branch.now name.now) found.now) }
+        ≡ out.old.items ++ listed MOST (λ name. unknown_account_text branch.now name.now) found.now) }
     ensures memory { IsOkUnless result Cause.OutOfMemory }
 {
     let first = &found[..found.len().min(MOST)];

@@ -7,8 +7,9 @@ ghost use Rattle.money_core.specs.Mark.{group_byte};
 ghost use Rattle.money_core.specs.declared.unit.Unit.{Unit as Commodity};
 ghost use Rattle.money_core.specs.PriceReading.{price};
 ghost use Rattle.money_core.specs.Reading.{amount};
-ghost use Rattle.treasury_told.specs.OddAmount.{seen_with, has_three, is_odd_mark, is_odd};
-ghost use Rattle.treasury_told.specs.OddAmount.{is_odd_in, text_in, if_odd, odd_read, odd_amount, odd_cost, odd_price};
+ghost use Rattle.treasury_told.specs.OddAmount.{seen_with, has_three, is_odd_mark, is_odd_amount};
+ghost use Rattle.treasury_told.specs.OddAmount.{is_odd_in, text_if_utf8, if_odd, odd_read, odd_amount, odd_cost};
+ghost use Rattle.treasury_told.specs.OddAmount.{odd_price};
 
 use money_core::{Price, Style, Styles, Unit, read_amount, read_price};
 
@@ -80,7 +81,7 @@ fn is_odd_mark(seen: Seen, rest: &[u8]) -> bool
 /// Whether a group mark stands in a number otherwise than before exactly three digits, or after nothing but zeros.
 #[tactic(auto, unfolding(crate::specs::OddAmount::is_odd_from))]
 fn is_odd(text: &[u8], group: u8) -> bool
-    ensures { result ≡ is_odd group text.now }
+    ensures { result ≡ is_odd_amount group text.now }
 {
     let mut seen = Seen {
         quoted: false,
@@ -98,7 +99,7 @@ fn is_odd(text: &[u8], group: u8) -> bool
 
 /// Whether the text is odd in a style.
 fn is_odd_style(style: &Style, text: &[u8]) -> bool
-    ensures { result ≡ is_odd (group_byte style.now.mark) text.now }
+    ensures { result ≡ is_odd_amount (group_byte style.now.mark) text.now }
 {
     is_odd(text, style.mark.group())
 }
@@ -127,7 +128,7 @@ fn may_be_odd(styles: &Styles, text: &[u8]) -> bool
 
 /// The text, if it is UTF-8.
 fn text_in(text: &[u8]) -> Option<&str>
-    ensures { option_map (λ t. t.now) result ≡ text_in text.now }
+    ensures { option_map (λ t. t.now) result ≡ text_if_utf8 text.now }
 {
     match str::from_utf8(text) {
         Ok(text) => Some(text),

@@ -6,7 +6,7 @@ use Rattle.book_core.specs.declared.account.Reach.{Reach}
 use Rattle.book_core.specs.declared.leg.Leg.{Leg}
 use Rattle.book_core.specs.declared.claim.Placed.{Placed}
 use Rattle.book_core.specs.Claim.{account_at}
-use Rattle.book_core.specs.ClaimIndex.{part_of}
+use Rattle.book_core.specs.ClaimIndex.{index_part}
 use Rattle.book_core.proofs.ClaimIndexLemmas.{found_more, found_all}
 use Rattle.book_core.proofs.claim_index.put_claims.Goals as goal
 
@@ -22,7 +22,8 @@ loop-placed-preserved c = let blank : Placed =
           c.items-placed-items.result.now c.loop-placed.placed-index blank c.as_bytes.result.now c.loop-placed-test.true
           c.put.ensures.kept c.loop-placed.invariant.put
           (c.as_bytes.ensures.value ∙ c.account_of-account.ensures ∙ ap (λ (ls : List Leg). account_at ls x.leg)
-          c.items.ensures) (subst (λ (r : Reach). Contains (spots_of (part_of r c.put.new.self) c.as_bytes.result.now)
+          c.items.ensures) (subst (λ (r : Reach). Contains
+          (spots_of (index_part r c.put.new.self) c.as_bytes.result.now)
           (record { day = c.args.entry.now.day; number = c.args.number; part = x.leg })) c.reach_of_kind.ensures
           c.in_ok-put.ensures.put);
     }

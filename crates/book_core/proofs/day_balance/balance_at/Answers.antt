@@ -4,7 +4,7 @@ use Rattle.std.proofs.lemmas.Int.{ints}
 use Rattle.day_sums.specs.declared.period.Period.{Period}
 use Rattle.day_sums.specs.declared.period.Period.TheVariants.{Before, Within}
 use Rattle.day_sums.specs.Period.{is_in}
-use Rattle.day_sums.specs.Sums.{sum_of}
+use Rattle.day_sums.specs.Sums.{period_sum}
 use Rattle.book_core.specs.declared.place.Until.{Until}
 use Rattle.book_core.specs.declared.place.Until.TheVariants.{At}
 use Rattle.book_core.specs.Book.{posted}
@@ -41,7 +41,8 @@ earlier c = c.min-earlier.ensures ∙ ap (λ (n : ℕ). min n (length c.args.ent
 before : (c : goal.After-own_share-own) → c.sum-before.result ≡ over c (Before c.args.place.day)
 unfolding over
 before c =
-    c.sum-before.ensures ∙ ap (λ (a : List ℕ). sum_of c.args.rows.now a c.args.query.now.unit (Before c.args.place.day))
+    c.sum-before.ensures ∙ ap (λ (a : List ℕ). period_sum c.args.rows.now a c.args.query.now.unit
+    (Before c.args.place.day))
     c.as_bytes-account.ensures.value ∙ c.requires.sums c.args.query.now.account.now c.args.query.now.unit
     (Before c.args.place.day)
 
@@ -50,7 +51,7 @@ on_day : (c : goal.After-own_share-own)
 unfolding over
 on_day c =
     c.sum-on_day.ensures ∙ ap (λ (a : List ℕ).
-    sum_of c.args.rows.now a c.args.query.now.unit (Within c.args.place.day c.min-earlier.result))
+    period_sum c.args.rows.now a c.args.query.now.unit (Within c.args.place.day c.min-earlier.result))
     c.as_bytes-account.ensures.value ∙ c.requires.sums c.args.query.now.account.now c.args.query.now.unit
     (Within c.args.place.day c.min-earlier.result)
     ∙ ap (λ (n : ℕ). over c (Within c.args.place.day n)) (earlier c)

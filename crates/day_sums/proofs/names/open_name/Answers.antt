@@ -1,6 +1,6 @@
 use Rattle.std.proofs.Common.{◌≡◌, ◌∙◌, sym, ap, subst, List, ℕ, rules}
 use Rattle.day_sums.specs.Row.{Kept, no_row, SameRow, has_number}
-use Rattle.day_sums.specs.Sums.{Names, row_at}
+use Rattle.day_sums.specs.Sums.{KeptByName, row_at}
 use Rattle.day_sums.proofs.NameLemmas.{Writes, same_rows, row_own, in_row}
 use Rattle.day_sums.proofs.names.open_name.Goals as goal
 
@@ -20,8 +20,8 @@ returns-in-Ok-clause-same c =
     subst (λ (name : List ℕ). Writes name old c.insert.new.self c.of-row.result) c.in_ok-name.ensures.items
     c.in-Ok.ensures.updates in
     let was : no_row ≡ row_at old c.args.account.now =
-    none ∙ ap (λ (m : Names). row_at m c.args.account.now) (sym kept) in
-    subst (λ (m : Names). (a : List ℕ) → SameRow (row_at m a) (row_at c.insert.new.self a)) kept
+    none ∙ ap (λ (m : KeptByName). row_at m c.args.account.now) (sym kept) in
+    subst (λ (m : KeptByName). (a : List ℕ) → SameRow (row_at m a) (row_at c.insert.new.self a)) kept
     (same_rows c.args.account.now old c.insert.new.self c.of-row.result put
     (subst (λ (r : Kept). SameRow r c.of-row.result) was c.of-row.ensures.same))
 

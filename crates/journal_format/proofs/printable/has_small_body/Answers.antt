@@ -6,7 +6,7 @@ use Rattle.journal_format.specs.declared.posting.Posting.{Posting}
 use Rattle.journal_format.specs.declared.txn.Txn.{Txn}
 use Rattle.journal_format.specs.CanonicalText.{body_text}
 use Rattle.journal_format.specs.Room.{room_behind}
-use Rattle.journal_format.specs.PrintedParts.{header_part, comments_part, postings_part, rest_part}
+use Rattle.journal_format.specs.PrintedParts.{header_part, comments_part, postings_part, comments_and_postings_part}
 use Rattle.journal_format.proofs.PrintingLemmas.{body_parts}
 use Rattle.journal_format.proofs.RoomLemmas.{room_found, room_missed, room_is, sum_fits}
 use Rattle.journal_format.proofs.printable.has_small_body.Goals as goal
@@ -15,7 +15,8 @@ body_length : (styles : List Style) (t : Txn)
     → length (header_part t) + (length (comments_part t.comments) + length (postings_part styles t.postings))
     ≡ length (body_text styles t)
 body_length styles t =
-    sym (length-append (header_part t) (rest_part styles t) ∙ ap (λ (k : ℕ). length (header_part t) + k)
+    sym (length-append (header_part t) (comments_and_postings_part styles t)
+    ∙ ap (λ (k : ℕ). length (header_part t) + k)
     (length-append (comments_part t.comments) (postings_part styles t.postings)))
     ∙ ap length (body_parts styles t)
 

@@ -4,7 +4,7 @@ use Rattle.std.specs.Char.{is_ascii_digit}
 use Rattle.std.specs.List.{list_all}
 use Rattle.jiff_core.specs.Calendar.{days_from_civil}
 use Rattle.money_core.specs.declared.day.Day.{Day}
-use Rattle.journal_lines.specs.Date.{IsDay, is_short, number_of, is_separator}
+use Rattle.journal_lines.specs.Date.{IsDay, is_month_or_day, number_of, is_separator}
 use Rattle.journal_lines.specs.DateReading.{HasDateParts, day_of, month_part, day_part, year_part, separator}
 use Rattle.journal_lines.proofs.LineSteps.{whole_rest}
 use Rattle.journal_lines.proofs.date.day_of_date.Goals as goal
@@ -12,8 +12,8 @@ use Rattle.journal_lines.proofs.date.day_of_date.Goals as goal
 -- the day that was found of the parts is the date's
 whole : (text : List ℕ) (r : Option Day) (y m d : ℕ) → 4 < length text → is_separator (separator text) ≡ true
     → (list_all is_ascii_digit (year_part text) ≡ true) × (y ≡ number_of (year_part text))
-    → (is_short (month_part text) ≡ true) × (m ≡ number_of (month_part text))
-    → (is_short (day_part text) ≡ true) × (d ≡ number_of (day_part text))
+    → (is_month_or_day (month_part text) ≡ true) × (m ≡ number_of (month_part text))
+    → (is_month_or_day (day_part text) ≡ true) × (d ≡ number_of (day_part text))
     → SomeIff r (IsDay y m d) (record { 0 = days_from_civil (pos y) m d }) → SomeIff r (HasDateParts text) (day_of text)
 whole text r y m d long sep year month day h =
     let parts : SomeIff r (IsDay (number_of (year_part text)) (number_of (month_part text)) (number_of (day_part text)))

@@ -1,7 +1,7 @@
 use Rattle.std.proofs.Common.{◌≡◌, ◌++◌, ℕ, List, length}
 use Rattle.std.specs.Prelude.{Ok}
 use Rattle.json_text.specs.JsonText.{quoted, with_commas, lines_of}
-use Rattle.json_text.specs.Growing.{Grows}
+use Rattle.json_text.specs.Growing.{AppendsText}
 use Rattle.json_text.proofs.CommaLemmas.{is_empty}
 use Rattle.json_text.proofs.array.grow_all_lines.Given as goal
 
@@ -11,7 +11,7 @@ invariant-lines l = record {
   done : List (List ℕ);
   all : lines_of l.text ≡ done ++ lines_of l.rest;
   first : l.first ≡ is_empty done;
-  grown : Grows (with_commas quoted done) l.fn.out l.out (Ok tt);
+  grown : AppendsText (with_commas quoted done) l.fn.out l.out (Ok tt);
 }
 
 abbrev pub decreases-lines : goal.decreases-lines

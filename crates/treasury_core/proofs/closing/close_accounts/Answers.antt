@@ -2,7 +2,7 @@ use Rattle.std.proofs.Common.{◌≡◌, ◌++◌, ◌∙◌, ℕ, List, true, a
 use Rattle.std.specs.Prelude.{filter}
 use Rattle.std.specs.List.{flat_map}
 use Rattle.book_core.proofs.AccountOrder.{accounts_are_one}
-use Rattle.journal_balance.specs.Legs.{declared}
+use Rattle.journal_balance.specs.Legs.{declared_commodities}
 use Rattle.treasury_core.specs.Choice.{is_selected}
 use Rattle.treasury_core.specs.Closing.{closed_account}
 use Rattle.treasury_core.proofs.ClosingLoops.{next_account, last_account}
@@ -11,7 +11,7 @@ use Rattle.treasury_core.proofs.closing.close_accounts.Goals as goal
 pub accounts-preserved : goal.accounts-preserved
 accounts-preserved g c =
     let names = c.accounts-account-items.result.now in
-    let one = closed_account (g.L.Ledger.book c.args.ledger.now) c.args.day (declared c.args.styles.now) in
+    let one = closed_account (g.L.Ledger.book c.args.ledger.now) c.args.day (declared_commodities c.args.styles.now) in
     let passes : is_selected c.args.choice.now.accounts c.account-item.result ≡ true =
     ap (is_selected c.args.choice.now.accounts) (sym c.as_str.ensures) ∙
     (sym c.is_selected.ensures ∙ c.if-not-is_selected.false) in
@@ -27,7 +27,7 @@ pub returns-clause-value : goal.returns-clause-value
 returns-clause-value g c =
     let book = g.L.Ledger.book c.args.ledger.now in
     let names = c.accounts-account-items.result.now in
-    let one = closed_account book c.args.day (declared c.args.styles.now) in
+    let one = closed_account book c.args.day (declared_commodities c.args.styles.now) in
     last_account one (is_selected c.args.choice.now.accounts) c.accounts.postings
     (flat_map one (filter (is_selected c.args.choice.now.accounts) names)) names c.accounts.account-index
     c.accounts-test.false c.accounts.invariant

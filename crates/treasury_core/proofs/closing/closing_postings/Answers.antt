@@ -3,7 +3,7 @@ use Rattle.money_core.specs.declared.unit.Unit.{Unit as Commodity}
 use Rattle.book_core.specs.Balance.{value, moved}
 use Rattle.book_core.specs.GoodBook.{most_turnover}
 use Rattle.journal_format.specs.declared.posting.Posting.{Posting}
-use Rattle.journal_balance.specs.Legs.{declared}
+use Rattle.journal_balance.specs.Legs.{declared_commodities}
 use Rattle.journal_balance.specs.Plain.{written_legs}
 use Rattle.treasury_core.specs.Choice.{is_selected, target_in}
 use Rattle.treasury_core.specs.Closing.{selected}
@@ -28,9 +28,10 @@ returns-clause-value g c =
     let closed = c.in_ok-closed.closed in
     let gains = c.in_ok-gaining.ensures.value
     ∙ (ap (λ (name : List ℕ). spread name (λ (u : Commodity). pos 0 -ℤ value u (written_legs c.items.result.now))
-    (λ (u : Commodity). None) (declared c.args.styles.now)) c.target_of.ensures
+    (λ (u : Commodity). None) (declared_commodities c.args.styles.now)) c.target_of.ensures
     ∙ ap (λ (ps : List Posting). spread (target_in c.args.choice.now.into)
-    (λ (u : Commodity). pos 0 -ℤ value u (written_legs ps)) (λ (u : Commodity). None) (declared c.args.styles.now))
+    (λ (u : Commodity). pos 0 -ℤ value u (written_legs ps)) (λ (u : Commodity). None)
+    (declared_commodities c.args.styles.now))
     c.items.ensures) in
     let joined = closing_joined book c.args.day (target_in c.args.choice.now.into) (length c.args.styles.now)
     (selected (is_selected c.args.choice.now.accounts) book) closed c.in_ok-gaining.gaining

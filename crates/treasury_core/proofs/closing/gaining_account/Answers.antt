@@ -3,9 +3,9 @@ use Rattle.std.proofs.Common.{to_z, of_z}
 use Rattle.std.proofs.lemmas.Int.{ints, to_z-of_z}
 use Rattle.money_core.specs.declared.unit.Unit.{Unit as Commodity}
 use Rattle.book_core.specs.Balance.{value}
-use Rattle.journal_balance.specs.Legs.{declared}
+use Rattle.journal_balance.specs.Legs.{declared_commodities}
 use Rattle.journal_balance.specs.Plain.{written_legs}
-use Rattle.treasury_core.specs.Closing.{posting_of}
+use Rattle.treasury_core.specs.Closing.{nonzero_posting}
 use Rattle.treasury_core.proofs.ClosingSums.{abs_value, spread}
 use Rattle.treasury_core.proofs.ClosingLoops.{next_unit, last_unit}
 use Rattle.treasury_core.proofs.closing.gaining_account.Goals as goal
@@ -34,21 +34,22 @@ units-preserved c =
     let same = to_z-of_z w64 (pos 0 -ℤ to_z w64 (of_z w64 c.sum_in-lost.result)) fine ∙ ap (λ (q : ℤ). pos 0 -ℤ q)
     (back ∙ is) in
     let pushed : c.push_posting.new.postings
-    ≡ c.units.postings ++ posting_of c.args.into.now unit (pos 0 -ℤ value unit (written_legs closed)) None =
-    c.in_ok-push_posting.ensures.ok ∙ ap (λ (q : ℤ). c.units.postings ++ posting_of c.args.into.now unit q None) same in
+    ≡ c.units.postings ++ nonzero_posting c.args.into.now unit (pos 0 -ℤ value unit (written_legs closed)) None =
+    c.in_ok-push_posting.ensures.ok ∙ ap (λ (q : ℤ). c.units.postings ++ nonzero_posting c.args.into.now unit q None)
+    same in
     let known : c.units.number < length c.args.styles.now =
     omega (arith, c.units-test.true, c.len-number-end.ensures.count) in
-    next_unit (λ (u : Commodity). posting_of c.args.into.now u (pos 0 -ℤ value u (written_legs closed)) None)
+    next_unit (λ (u : Commodity). nonzero_posting c.args.into.now u (pos 0 -ℤ value u (written_legs closed)) None)
     c.units.postings c.push_posting.new.postings
     (spread c.args.into.now (λ (u : Commodity). pos 0 -ℤ value u (written_legs closed)) (λ (u : Commodity). None)
-    (declared c.args.styles.now)) c.units.number (length c.args.styles.now) known c.units.invariant pushed
+    (declared_commodities c.args.styles.now)) c.units.number (length c.args.styles.now) known c.units.invariant pushed
 
 pub returns-clause-value : goal.returns-clause-value
 returns-clause-value c =
     let closed = c.args.closed.now in
     let past : length c.args.styles.now ≤ c.units.number =
     omega (arith, c.units-test.false, c.len-number-end.ensures.count) in
-    last_unit (λ (u : Commodity). posting_of c.args.into.now u (pos 0 -ℤ value u (written_legs closed)) None)
+    last_unit (λ (u : Commodity). nonzero_posting c.args.into.now u (pos 0 -ℤ value u (written_legs closed)) None)
     c.units.postings
     (spread c.args.into.now (λ (u : Commodity). pos 0 -ℤ value u (written_legs closed)) (λ (u : Commodity). None)
-    (declared c.args.styles.now)) c.units.number (length c.args.styles.now) past c.units.invariant
+    (declared_commodities c.args.styles.now)) c.units.number (length c.args.styles.now) past c.units.invariant

@@ -1,7 +1,7 @@
 use Rattle.std.proofs.Common.{◌≡◌, ◌++◌, ◌-◌, ◌-ℤ◌, pos, length, None}
 use Rattle.money_core.specs.declared.unit.Unit.{Unit as Commodity}
 use Rattle.book_core.specs.Balance.{value}
-use Rattle.journal_balance.specs.Legs.{commodities, declared}
+use Rattle.journal_balance.specs.Legs.{commodities, declared_commodities}
 use Rattle.journal_balance.specs.Plain.{written_legs}
 use Rattle.treasury_core.proofs.ClosingSums.{spread}
 use Rattle.treasury_core.proofs.closing.gaining_account.Given as goal
@@ -12,4 +12,4 @@ invariant-units l =
     l.postings ++ spread l.into (λ (unit : Commodity). pos 0 -ℤ value unit (written_legs l.closed))
     (λ (unit : Commodity). None) (commodities l.number (length l.styles - l.number))
     ≡ spread l.into (λ (unit : Commodity). pos 0 -ℤ value unit (written_legs l.closed)) (λ (unit : Commodity). None)
-    (declared l.styles)
+    (declared_commodities l.styles)

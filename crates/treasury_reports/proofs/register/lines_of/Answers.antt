@@ -8,7 +8,7 @@ use Rattle.money_core.specs.Amount.{limit}
 use Rattle.book_core.specs.Balance.{value}
 use Rattle.treasury_reports.specs.declared.listed.Listed.{Listed}
 use Rattle.treasury_reports.specs.RegisterReport.{legs_in}
-use Rattle.treasury_reports.specs.Lent.{IsListable, AreSums, sum_at}
+use Rattle.treasury_reports.specs.Lent.{IsListable, AreSumsOfListed, sum_at}
 use Rattle.treasury_reports.proofs.RegisterLemmas.{sum_next, sum_within, within_abs, sums_next, lines_next}
 use Rattle.treasury_reports.proofs.RegisterLemmas.{take_with_next}
 use Rattle.treasury_reports.proofs.RegisterLemmas.{listed_at}
@@ -56,7 +56,7 @@ lines-preserved c =
     record {
       wide = ap (λ (l : List ℤ). length l) c.add_to-sum.ensures.sums ∙ length-set c.lines.sums.items x.leg.unit.0 _ ∙
           c.lines.invariant.wide;
-      sums = subst (AreSums styles c.add_to-sum.new.sums.items)
+      sums = subst (AreSumsOfListed styles c.add_to-sum.new.sums.items)
           (sym (take_with_next all i x c.lines-test.true c.one-item.is))
           (sums_next styles c.lines.sums.items c.add_to-sum.new.sums.items (take i all) x _ c.add_to-sum.ensures.sums
           c.lines.invariant.wide one.amount.known is c.lines.invariant.sums);

@@ -2,7 +2,7 @@ use Rattle.std.proofs.Common.{◌∷◌, [], ap, sym, ◌∙◌, arith}
 use Rattle.std.proofs.lemmas.Result.{on_ok_weaker}
 use Rattle.treasury_state.specs.Joined.{with_records}
 use Rattle.treasury_state.specs.Seen.{branch_of, branches_of}
-use Rattle.treasury_state.specs.Room.{HasRoom}
+use Rattle.treasury_state.specs.Room.{FitsLedger}
 use Rattle.treasury_state.specs.Federation.{name_place}
 use Rattle.treasury_state.proofs.PlaceLemmas.{past_branches, branch_set, changed_holds}
 use Rattle.treasury_state.proofs.BackLemmas.{room_fit, room_within}
@@ -18,7 +18,7 @@ returns-then-place-len-clause-ok g c =
 pub add_record-requires-clause-fit : goal.add_record-requires-clause-fit
 add_record-requires-clause-fit g c =
     room_fit (branch_of c.index_mut-branch.result.now) c.args.row
-    (changed_holds HasRoom (with_records (c.args.row ∷ [])) c.args.name.now c.args.branches.now.items
+    (changed_holds FitsLedger (with_records (c.args.row ∷ [])) c.args.name.now c.args.branches.now.items
     c.place_of-place.result c.index_mut-branch.result.now (omega arith)
     (c.place_of-place.ensures ∙ ap (λ xs. name_place (branches_of xs) c.args.name.now) c.deref.ensures.value)
     c.index_mut-branch.ensures.value c.requires.room)
@@ -26,7 +26,7 @@ add_record-requires-clause-fit g c =
 pub add_record-requires-clause-room : goal.add_record-requires-clause-room
 add_record-requires-clause-room g c =
     room_within (branch_of c.index_mut-branch.result.now) c.args.row
-    (changed_holds HasRoom (with_records (c.args.row ∷ [])) c.args.name.now c.args.branches.now.items
+    (changed_holds FitsLedger (with_records (c.args.row ∷ [])) c.args.name.now c.args.branches.now.items
     c.place_of-place.result c.index_mut-branch.result.now (omega arith)
     (c.place_of-place.ensures ∙ ap (λ xs. name_place (branches_of xs) c.args.name.now) c.deref.ensures.value)
     c.index_mut-branch.ensures.value c.requires.room)

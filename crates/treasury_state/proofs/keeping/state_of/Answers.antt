@@ -10,7 +10,7 @@ use Rattle.treasury_state.specs.Federation.{Branch, Federation}
 use Rattle.treasury_state.specs.Seen.{branch_of, branches_of}
 use Rattle.treasury_state.specs.Kept.{ArePlacesOf}
 use Rattle.treasury_state.specs.Index.{IsKept}
-use Rattle.treasury_state.specs.Room.{HasRoom}
+use Rattle.treasury_state.specs.Room.{FitsLedger}
 use Rattle.treasury_state.proofs.BackLemmas.{good_room}
 use Rattle.treasury_state.proofs.IndexLemmas.{index_pushed}
 use Rattle.treasury_state.proofs.KeepingLemmas.{all_next, good_same, no_branches}
@@ -21,8 +21,8 @@ branch_of-requires g c =
     let front = branches_of c.branches.branches.items in
     let all : c.args.draft.branches ≡ front ++ c.in-Some.branch ∷ c.next.new.self.rest.items =
     sym c.branches.invariant.same ∙ ap (λ (bs : List Branch). front ++ bs) c.in-Some.ensures.steps.0 in
-    all_next HasRoom front c.next.new.self.rest.items c.in-Some.branch
-    (subst (AllByRecursion HasRoom) all (good_room c.args.draft c.requires).branches)
+    all_next FitsLedger front c.next.new.self.rest.items c.in-Some.branch
+    (subst (AllByRecursion FitsLedger) all (good_room c.args.draft c.requires).branches)
 
 pub branches-preserved : goal.branches-preserved
 branches-preserved g c =

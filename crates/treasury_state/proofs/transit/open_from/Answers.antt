@@ -4,7 +4,7 @@ use Rattle.std.specs.Prelude.{int_le}
 use Rattle.std.proofs.lemmas.Int.{ints, to_z-of_z}
 use Rattle.money_core.proofs.TestLemmas.{le_from_int_le}
 use Rattle.treasury_state.specs.declared.transfer.Part.{Part}
-use Rattle.treasury_state.specs.Transfer.{sum_of, received_by}
+use Rattle.treasury_state.specs.Transfer.{sum_of_parts, received_by}
 use Rattle.treasury_state.proofs.PartLemmas.{all_positive, sum_low, received_low, received_high, open_without}
 use Rattle.treasury_state.proofs.PartLemmas.{open_with}
 use Rattle.treasury_state.proofs.transit.open_from.Goals as goal
@@ -15,7 +15,7 @@ overflow_sub-open c =
     let each = all_positive t.day t.parts c.requires.fair.marked.parts.each in
     let low = received_low t.parts c.args.day each in
     let high = received_high t.parts c.args.day each in
-    let within = le_from_int_le (sum_of t.parts) t.qty c.requires.fair.marked.parts.within in
+    let within = le_from_int_le (sum_of_parts t.parts) t.qty c.requires.fair.marked.parts.within in
     let by : c.received_by.result ≡ received_by t.parts c.args.day =
     c.received_by.ensures ∙ ap (λ ps. received_by ps c.args.day) c.items.ensures in
     let qty = to_z-of_z w64 t.qty (search rules) in
@@ -35,7 +35,7 @@ overflow_sub-result c =
     let low = received_low t.parts c.args.day each in
     let high = received_high t.parts c.args.day each in
     let some = sum_low t.parts each in
-    let within = le_from_int_le (sum_of t.parts) t.qty c.requires.fair.marked.parts.within in
+    let within = le_from_int_le (sum_of_parts t.parts) t.qty c.requires.fair.marked.parts.within in
     let by : c.received_by.result ≡ received_by t.parts c.args.day =
     c.received_by.ensures ∙ ap (λ ps. received_by ps c.args.day) c.items.ensures in
     let rest = c.rest_of.ensures in
@@ -52,7 +52,7 @@ returns-in-None c =
     let each = all_positive t.day t.parts c.requires.fair.marked.parts.each in
     let low = received_low t.parts c.args.day each in
     let high = received_high t.parts c.args.day each in
-    let within = le_from_int_le (sum_of t.parts) t.qty c.requires.fair.marked.parts.within in
+    let within = le_from_int_le (sum_of_parts t.parts) t.qty c.requires.fair.marked.parts.within in
     let by : c.received_by.result ≡ received_by t.parts c.args.day =
     c.received_by.ensures ∙ ap (λ ps. received_by ps c.args.day) c.items.ensures in
     let gap = to_z-of_z w64 (t.qty -ℤ c.received_by.result)
@@ -66,7 +66,7 @@ returns-else-receipt-day c =
     let each = all_positive t.day t.parts c.requires.fair.marked.parts.each in
     let low = received_low t.parts c.args.day each in
     let high = received_high t.parts c.args.day each in
-    let within = le_from_int_le (sum_of t.parts) t.qty c.requires.fair.marked.parts.within in
+    let within = le_from_int_le (sum_of_parts t.parts) t.qty c.requires.fair.marked.parts.within in
     let by : c.received_by.result ≡ received_by t.parts c.args.day =
     c.received_by.ensures ∙ ap (λ ps. received_by ps c.args.day) c.items.ensures in
     let gap = to_z-of_z w64 (t.qty -ℤ c.received_by.result)
@@ -83,7 +83,7 @@ returns-then-receipt-day c =
     let low = received_low t.parts c.args.day each in
     let high = received_high t.parts c.args.day each in
     let some = sum_low t.parts each in
-    let within = le_from_int_le (sum_of t.parts) t.qty c.requires.fair.marked.parts.within in
+    let within = le_from_int_le (sum_of_parts t.parts) t.qty c.requires.fair.marked.parts.within in
     let by : c.received_by.result ≡ received_by t.parts c.args.day =
     c.received_by.ensures ∙ ap (λ ps. received_by ps c.args.day) c.items.ensures in
     let rest = c.rest_of.ensures in

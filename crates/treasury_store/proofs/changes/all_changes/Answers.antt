@@ -1,4 +1,4 @@
-use Rattle.treasury_store.specs.Changes.{changes_from, counted_all}
+use Rattle.treasury_store.specs.Changes.{changes_from, counts_after_all}
 use Rattle.treasury_store.proofs.PushLemmas.{can_next, fit_next, changes_next, counts_next, changes_end, counts_end}
 use Rattle.treasury_store.proofs.changes.all_changes.Goals as goal
 
@@ -25,7 +25,7 @@ addition-preserved c =
       changes = changes_next styles names now next xs i x low at c.addition.changes c.add_changes.new.changes
           (changes_from styles names c.args.counts.now xs) is c.in_ok-add_changes.ensures.ok
           c.addition.invariant.changes;
-      counts = counts_next styles names now next xs i x low at (counted_all names c.args.counts.now xs) is
+      counts = counts_next styles names now next xs i x low at (counts_after_all names c.args.counts.now xs) is
           c.addition.invariant.counts;
     }
 
@@ -37,5 +37,6 @@ returns-clause-changes c =
 
 pub returns-clause-counted : goal.returns-clause-counted
 returns-clause-counted c =
-    counts_end c.args.names.now c.addition.counts (counted_all c.args.names.now c.args.counts.now c.args.additions.now)
+    counts_end c.args.names.now c.addition.counts
+    (counts_after_all c.args.names.now c.args.counts.now c.args.additions.now)
     c.args.additions.now c.addition.addition-index c.addition-test.false c.addition.invariant.counts

@@ -2,7 +2,7 @@ use Rattle.std.proofs.Common.{◌≡◌, ◌≤◌, ◌∙◌, sym, ap, subst, f
 use Rattle.sqlite_trees.specs.View.{doubt}
 use Rattle.sqlite.specs.Held.{state}
 use Rattle.treasury_tables.specs.Kept.{IsFaithful}
-use Rattle.treasury_tables.specs.Tables.{format}
+use Rattle.treasury_tables.specs.Tables.{format_table}
 use Rattle.treasury_tables.specs.Creating.{has_one, has_counter, Makes, Beside, SurvivesMaking}
 use Rattle.treasury_tables.proofs.InsideLemmas.{survives_commit}
 use Rattle.treasury_tables.proofs.CreateLemmas.{stays_uncounted}
@@ -27,12 +27,12 @@ returns-clause-beside g c clean is_made none =
     omega (arith, c.put_format.ensures.survives.clean, clean_mid) in
     let free : has_one old.schema ≡ false = search rules in
     let made = subst (λ h. has_counter h.schema ≡ false
-    → Makes format (state g.S.Store h).now (state g.S.Store first).now) begun
+    → Makes format_table (state g.S.Store h).now (state g.S.Store first).now) begun
     (c.in_ok-create_format.ensures.creates.makes clean_first) none in
     let row =
     c.in_ok-put_format.ensures.gives clean_mid old.schema made.schema (no_format_in old.schema free) made.empty in
     let rest = c.in_ok-create_state.ensures.makes clean_last
-    (ap has_counter row.schema ∙ stays_uncounted old.schema format refl none) in
+    (ap has_counter row.schema ∙ stays_uncounted old.schema format_table refl none) in
     let done = (c.in_ok-commit.ensures.ok clean_end).1 in
     subst (λ h. Beside (state g.S.Store old).now (state g.S.Store h).now) same
     (subst (Beside (state g.S.Store old).now) (sym done.now_is) (whole_beside _ _ _ _ made row rest))
@@ -80,7 +80,7 @@ returns-clause-crash g c =
     let whole = survives_commit g.S.Store old last c.commit.new.self.0 P inside c.commit.ensures.survives
     (made_beside g.S.Store old first mid last (search rules)
     (subst (λ h. IsFaithful g.S.Store first → has_counter (state g.S.Store h).now.schema ≡ false
-    → Makes format (state g.S.Store h).now (state g.S.Store first).now) begun makes)
+    → Makes format_table (state g.S.Store h).now (state g.S.Store first).now) begun makes)
     c.in_ok-put_format.ensures.gives c.in_ok-create_state.ensures.makes c.put_format.ensures.survives
     c.create_state.ensures.survives) in
     subst (λ h. SurvivesMaking g.S.Store old h) same whole
@@ -101,7 +101,7 @@ returns-in_err-commit-clause-crash g c =
     let whole = survives_commit g.S.Store old last c.commit.new.self.0 P inside c.commit.ensures.survives
     (made_beside g.S.Store old first mid last (search rules)
     (subst (λ h. IsFaithful g.S.Store first → has_counter (state g.S.Store h).now.schema ≡ false
-    → Makes format (state g.S.Store h).now (state g.S.Store first).now) begun makes)
+    → Makes format_table (state g.S.Store h).now (state g.S.Store first).now) begun makes)
     c.in_ok-put_format.ensures.gives c.in_ok-create_state.ensures.makes c.put_format.ensures.survives
     c.create_state.ensures.survives) in
     subst (λ h. SurvivesMaking g.S.Store old h) same whole

@@ -1,7 +1,8 @@
 use Rattle.std.proofs.Common.{map, arith, IsPermutation}
 use Rattle.sqlite.specs.Effect.{Database}
 use Rattle.treasury_tables.specs.Kept.{IsFaithful}
-use Rattle.treasury_tables.specs.Rows.{branch_row, entry_row, leg_row, claim_row, transfer_row, part_row}
+use Rattle.treasury_tables.specs.Rows.{values_of_branch, values_of_entry, values_of_leg, values_of_claim}
+use Rattle.treasury_tables.specs.Rows.{values_of_transfer, values_of_part}
 use Rattle.treasury_tables.specs.Rows.{shown_branch, shown_entry, shown_leg, shown_claim, shown_transfer, shown_part}
 use Rattle.treasury_tables.proofs.QueriesLemmas.{same_error, queries_are_quiet, quiet_more, quiet_error, quiet_ok}
 use Rattle.treasury_tables.proofs.QueriesLemmas.{seen_before}
@@ -97,22 +98,23 @@ returns-clause-shown g c clean has =
       schema = has;
       units = c.in_ok-units.ensures.shown clean1 has;
       branches = seen_before c.load_branches.new.conn
-          (λ (d : Database). IsPermutation (map branch_row c.in_ok-branches.branches) (map shown_branch (d.trees 3)))
+          (λ (d : Database). IsPermutation (map values_of_branch c.in_ok-branches.branches)
+          (map shown_branch (d.trees 3)))
           past1 c.in_ok-branches.ensures.queries.survives c.in_ok-branches.ensures.shown clean2 has;
       entries = seen_before c.load_entries.new.conn
-          (λ (d : Database). IsPermutation (map entry_row c.in_ok-entries.entries) (map shown_entry (d.trees 5))) past2
-          c.in_ok-entries.ensures.queries.survives c.in_ok-entries.ensures.shown clean3 has;
+          (λ (d : Database). IsPermutation (map values_of_entry c.in_ok-entries.entries) (map shown_entry (d.trees 5)))
+          past2 c.in_ok-entries.ensures.queries.survives c.in_ok-entries.ensures.shown clean3 has;
       legs = seen_before c.load_legs.new.conn
-          (λ (d : Database). IsPermutation (map leg_row c.in_ok-legs.legs) (map shown_leg (d.trees 8))) past3
+          (λ (d : Database). IsPermutation (map values_of_leg c.in_ok-legs.legs) (map shown_leg (d.trees 8))) past3
           c.in_ok-legs.ensures.queries.survives c.in_ok-legs.ensures.shown clean4 has;
       claims = seen_before c.load_claims.new.conn
-          (λ (d : Database). IsPermutation (map claim_row c.in_ok-claims.claims) (map shown_claim (d.trees 10))) past4
-          c.in_ok-claims.ensures.queries.survives c.in_ok-claims.ensures.shown clean5 has;
+          (λ (d : Database). IsPermutation (map values_of_claim c.in_ok-claims.claims) (map shown_claim (d.trees 10)))
+          past4 c.in_ok-claims.ensures.queries.survives c.in_ok-claims.ensures.shown clean5 has;
       transfers = seen_before c.load_transfers.new.conn
           (λ (d : Database).
-          IsPermutation (map transfer_row c.in_ok-transfers.transfers) (map shown_transfer (d.trees 12))) past5
+          IsPermutation (map values_of_transfer c.in_ok-transfers.transfers) (map shown_transfer (d.trees 12))) past5
           c.in_ok-transfers.ensures.queries.survives c.in_ok-transfers.ensures.shown clean6 has;
       receipts = seen_before c.load_receipts.new.conn
-          (λ (d : Database). IsPermutation (map part_row c.in_ok-receipts.receipts) (map shown_part (d.trees 14))) past6
-          c.in_ok-receipts.ensures.queries.survives c.in_ok-receipts.ensures.shown clean has;
+          (λ (d : Database). IsPermutation (map values_of_part c.in_ok-receipts.receipts) (map shown_part (d.trees 14)))
+          past6 c.in_ok-receipts.ensures.queries.survives c.in_ok-receipts.ensures.shown clean has;
     }

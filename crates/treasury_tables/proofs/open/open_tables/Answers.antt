@@ -6,7 +6,7 @@ use Rattle.sqlite.specs.Order.{column}
 use Rattle.sqlite.specs.Held.{state}
 use Rattle.treasury_tables.specs.Kept.{IsFaithful}
 use Rattle.treasury_tables.specs.Creating.{has_all, has_receipt}
-use Rattle.treasury_tables.specs.Opening.{AreOursAlone, IsFirst}
+use Rattle.treasury_tables.specs.Opening.{AreOursAlone, IsFirstVersion}
 use Rattle.treasury_tables.proofs.OpenLemmas.{none_there, not_first, not_second, receipt_is_there, shown_versions}
 use Rattle.treasury_tables.proofs.UpgradeLemmas.{no_upgrade, then_upgrade}
 use Rattle.treasury_tables.proofs.open.open_tables.Goals as goal
@@ -109,7 +109,7 @@ returns-in_err-upgrade-clause-crash g c =
     let has = ours.first all bare in
     let same = shown_versions ((state g.S.Store c.args.conn.now).now.trees 0) _ (Int (pos 1))
     (c.in_ok-rows.ensures.rows clean (inl has)) in
-    let first : IsFirst (state g.S.Store c.args.conn.now).now =
+    let first : IsFirstVersion (state g.S.Store c.args.conn.now).now =
     record {
       schema = has;
       version = same.0
@@ -139,7 +139,7 @@ returns-clause-crash g c =
     let has = ours.first all bare in
     let same = shown_versions ((state g.S.Store c.args.conn.now).now.trees 0) _ (Int (pos 1))
     (c.in_ok-rows.ensures.rows clean (inl has)) in
-    let first : IsFirst (state g.S.Store c.args.conn.now).now =
+    let first : IsFirstVersion (state g.S.Store c.args.conn.now).now =
     record {
       schema = has;
       version = same.0

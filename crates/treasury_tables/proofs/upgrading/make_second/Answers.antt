@@ -6,7 +6,7 @@ use Rattle.sqlite.specs.Order.{column}
 use Rattle.sqlite_trees.specs.View.{IsShaped}
 use Rattle.sqlite_trees.specs.declared.store.Shape.TheVariants as shape
 use Rattle.std.proofs.lemmas.Result.{on_ok_weaker}
-use Rattle.treasury_tables.specs.Tables.{receipt}
+use Rattle.treasury_tables.specs.Tables.{receipt_table}
 use Rattle.treasury_tables.specs.Creating.{has_counter}
 use Rattle.treasury_tables.proofs.UpgradeLemmas.{upgrades_by_both, row_stays}
 use Rattle.treasury_tables.proofs.upgrading.make_second.Goals as goal
@@ -23,6 +23,6 @@ returns-clause-makes g c clean =
     let made = c.in_ok-create_receipt.ensures.creates.makes clean_b (ap has_counter has) in
     let rows = row_stays a.now b.now has made in
     upgrades_by_both a.now b.now d.now has made
-    (sets (made.schema ∙ ap (λ s. created s receipt) has) (ap (map (λ r. column r 1)) rows ∙ first.0.version)
+    (sets (made.schema ∙ ap (λ s. created s receipt_table) has) (ap (map (λ r. column r 1)) rows ∙ first.0.version)
     (subst (IsShaped shape.Table) (sym rows) first.1)))
     (c.set_version.ensures.sets clean)

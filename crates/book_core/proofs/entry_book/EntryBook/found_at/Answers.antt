@@ -2,7 +2,7 @@ use Rattle.std.proofs.Common.{◌≡◌, ◌∙◌, ℤ, ◌+ℤ◌, List, min, 
 use Rattle.std.proofs.Common.{rules}
 use Rattle.std.proofs.lemmas.Int.{ints, to_z-of_z}
 use Rattle.day_sums.specs.declared.period.Period.TheVariants.{Within}
-use Rattle.day_sums.specs.Sums.{sum_of}
+use Rattle.day_sums.specs.Sums.{period_sum}
 use Rattle.book_core.specs.declared.balance.Query.{Query}
 use Rattle.book_core.specs.declared.place.Place.{Place}
 use Rattle.book_core.specs.declared.place.Until.TheVariants.{At}
@@ -23,7 +23,7 @@ use Rattle.book_core.proofs.entry_book.EntryBook.found_at.Goals as goal
 parts : (q : Query) (own : OwnLegs) (book b : List Entry) (p : Place) (x y : ℤ) → AreOwnIn own book → IsWithin book
     → q.reach ≡ Own → q.limit ≡ At p → p.entry ≡ own.number → p.day.0 ≡ own.day.0
     → x ≡ balance q.reach book q.account.now q.unit (At (start p))
-    → y ≡ sum_of own.rows q.account.now q.unit (Within own.day (min p.leg own.count)) → book ≡ b →
+    → y ≡ period_sum own.rows q.account.now q.unit (Within own.day (min p.leg own.count)) → book ≡ b →
     FitsSigned w64 (to_z w64 (of_z w64 x) +ℤ to_z w64 (of_z w64 y))
     × (to_z w64 (of_z w64 (to_z w64 (of_z w64 x) +ℤ to_z w64 (of_z w64 y))) ≡ balance_for q b)
 parts q own book b p x y h within reach at number day e f g = (sum.0, sum.1 ∙ sym whole ∙ ap (balance_for q) g)
@@ -37,8 +37,8 @@ parts q own book b p x y h within reach at number day e f g = (sum.0, sum.1 ∙ 
 
     split : balance Own book q.account.now q.unit (At p) ≡ x +ℤ y
     split = balance_own own book q.account.now q.unit p h number day
-        ∙ ap (λ (z : ℤ). z +ℤ sum_of own.rows q.account.now q.unit (Within own.day (min p.leg own.count))) (sym before)
-        ∙ ap (λ (z : ℤ). x +ℤ z) (sym f)
+        ∙ ap (λ (z : ℤ). z +ℤ period_sum own.rows q.account.now q.unit (Within own.day (min p.leg own.count)))
+        (sym before) ∙ ap (λ (z : ℤ). x +ℤ z) (sym f)
 
     sum : FitsSigned w64 (to_z w64 (of_z w64 x) +ℤ to_z w64 (of_z w64 y))
         × (to_z w64 (of_z w64 (to_z w64 (of_z w64 x) +ℤ to_z w64 (of_z w64 y)))

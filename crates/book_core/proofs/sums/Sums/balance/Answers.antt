@@ -1,7 +1,7 @@
 use Rattle.std.proofs.Common.{◌≡◌, ◌∙◌, ap, sym, subst, List, ℕ, rules, w64}
 use Rattle.std.proofs.lemmas.Int.{to_z-of_z}
 use Rattle.day_sums.specs.declared.period.Period.TheVariants.{Through}
-use Rattle.day_sums.specs.Sums.{sum_of}
+use Rattle.day_sums.specs.Sums.{period_sum}
 use Rattle.book_core.specs.declared.account.Reach.{Reach}
 use Rattle.book_core.specs.DayRows.{AreSums}
 use Rattle.book_core.specs.Balance.{balance}
@@ -10,7 +10,7 @@ use Rattle.book_core.proofs.sums.Sums.balance.Goals as goal
 use Rattle.book_core.proofs.sums.Sums.balance.Goals.{After-sum, in-Own, in-Inside}
 
 -- the rows that are asked have the sums of the book
-through : (c : After-sum) → sum_of c.match-query.rows.now c.args.query.now.account.now c.args.query.now.unit
+through : (c : After-sum) → period_sum c.match-query.rows.now c.args.query.now.account.now c.args.query.now.unit
     (Through c.in-Through.day)
     ≡ balance c.args.query.now.reach c.args.entries.now c.args.query.now.account.now c.args.query.now.unit
     c.args.query.now.limit
@@ -30,5 +30,5 @@ through c =
 
 pub returns-in-Through : goal.returns-in-Through
 returns-in-Through c = to_z-of_z w64 c.sum.result (search rules) ∙ c.sum.ensures ∙ ap
-    (λ (a : List ℕ). sum_of c.match-query.rows.now a c.args.query.now.unit (Through c.in-Through.day))
+    (λ (a : List ℕ). period_sum c.match-query.rows.now a c.args.query.now.unit (Through c.in-Through.day))
     c.as_bytes.ensures.value ∙ through c

@@ -1,6 +1,6 @@
 use Rattle.std.proofs.Common.{◌≡◌, ◌∙◌, ◌&&◌, Bool, true, false, ap, sym, subst, ℤ, rules, w64, to_z, of_z}
 use Rattle.std.proofs.lemmas.Int.{to_z-of_z}
-use Rattle.day_sums.specs.Points.{IsUpTo, has}
+use Rattle.day_sums.specs.Points.{IsUpTo, has_point}
 use Rattle.day_sums.specs.Blocks.{Spread, points_at, block_of, day_sum, has_day, IsSpread, RaisedDays}
 use Rattle.day_sums.proofs.BlockLemmas.{small_tops, small_parts, raised_blocks}
 use Rattle.day_sums.proofs.blocks.Blocks.raise.Goals as goal
@@ -18,8 +18,8 @@ raise_in-requires-clause-sums c = small_parts (c.self.inside.tops, c.self.inside
     (small_view _ _ c.self.view_is c.requires.sums) _
 
 -- an open day has its point in its block
-own_open : (d : ℤ) (s : Spread) → has_day d s ≡ true → has d (points_at s.1 (block_of d)) ≡ true
-own_open d s h = part (has (block_of d) s.0) (has d (points_at s.1 (block_of d))) h
+own_open : (d : ℤ) (s : Spread) → has_day d s ≡ true → has_point d (points_at s.1 (block_of d)) ≡ true
+own_open d s h = part (has_point (block_of d) s.0) (has_point d (points_at s.1 (block_of d))) h
   where
     part : (t u : Bool) → (t && u) ≡ true → u ≡ true
     part true u e = e
@@ -31,8 +31,8 @@ raise_in-requires-clause-open c =
     let day = to_z-of_z w64 c.args.day (search rules) in
     let block = to_z-of_z w64 c.block_at-block.result (search rules) ∙ c.block_at-block.ensures.value
     ∙ ap block_of day in
-    ap (λ (z : ℤ). has z (points_at es (to_z w64 (of_z w64 c.block_at-block.result)))) day
-    ∙ ap (λ (k : ℤ). has c.args.day (points_at es k)) block
+    ap (λ (z : ℤ). has_point z (points_at es (to_z w64 (of_z w64 c.block_at-block.result)))) day
+    ∙ ap (λ (k : ℤ). has_point c.args.day (points_at es k)) block
     ∙ own_open c.args.day (c.self.inside.tops, es)
     (ap (has_day c.args.day) c.self.view_is ∙ c.requires.open)
 

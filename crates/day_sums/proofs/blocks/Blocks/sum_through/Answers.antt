@@ -1,7 +1,7 @@
 use Rattle.std.proofs.Common.{◌≡◌, ◌∙◌, ◌+ℤ◌, ap, sym, subst, arith, ℤ, negsuc, pos, ◌-ℤ◌, rules, w64, to_z, of_z}
 use Rattle.std.proofs.Common.{FitsSigned}
 use Rattle.std.proofs.lemmas.Int.{ints, to_z-of_z}
-use Rattle.day_sums.specs.Points.{IsUpTo, sum_at}
+use Rattle.day_sums.specs.Points.{IsUpTo, point_sum}
 use Rattle.day_sums.specs.Blocks.{Spread, points_at, block_of, day_sum}
 use Rattle.day_sums.proofs.blocks.Blocks.sum_through.Goals as goal
 
@@ -21,14 +21,14 @@ parts c =
     let s : Spread = (c.self.inside.tops, c.self.inside.parts.entries) in
     let day = to_z-of_z w64 c.args.day (search rules) in
     let block = c.block_at-block.ensures.value ∙ ap block_of day in
-    let before = c.sum_through-before.ensures ∙ ap (sum_at (pos 0) c.self.inside.tops)
+    let before = c.sum_through-before.ensures ∙ ap (point_sum (pos 0) c.self.inside.tops)
     (less_one c.block_at-block.result c.block_at-block.ensures.wide ∙ ap (λ (k : ℤ). k +ℤ negsuc 0) block) in
     let own = c.sum_in-own.ensures ∙ ap
-    (sum_at (pos 0) (points_at c.self.inside.parts.entries (to_z w64 (of_z w64 c.block_at-block.result)))) day ∙ ap
-    (λ (k : ℤ). sum_at (pos 0) (points_at c.self.inside.parts.entries k) c.args.day)
+    (point_sum (pos 0) (points_at c.self.inside.parts.entries (to_z w64 (of_z w64 c.block_at-block.result)))) day ∙ ap
+    (λ (k : ℤ). point_sum (pos 0) (points_at c.self.inside.parts.entries k) c.args.day)
     (to_z-of_z w64 c.block_at-block.result (search rules) ∙ block) in
     ap (λ (z : ℤ). z +ℤ c.sum_in-own.result) before
-    ∙ ap (λ (z : ℤ). sum_at (pos 0) s.0 (block_of c.args.day +ℤ negsuc 0) +ℤ z) own
+    ∙ ap (λ (z : ℤ). point_sum (pos 0) s.0 (block_of c.args.day +ℤ negsuc 0) +ℤ z) own
     ∙ ap (λ (x : Spread). day_sum x c.args.day) c.self.view_is
 
 fits : (c : goal.After-sum_in-own) → FitsSigned w64 (c.sum_through-before.result +ℤ c.sum_in-own.result)

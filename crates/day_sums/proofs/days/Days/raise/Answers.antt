@@ -1,6 +1,6 @@
 use Rattle.std.proofs.Common.{◌∙◌, ap, subst, ℤ, pos, rules, w64, to_z, of_z}
 use Rattle.std.proofs.lemmas.Int.{to_z-of_z}
-use Rattle.day_sums.specs.Points.{has}
+use Rattle.day_sums.specs.Points.{has_point}
 use Rattle.day_sums.specs.Blocks.{points_at}
 use Rattle.day_sums.specs.Row.{Kept, IsRow, RaisedRow, has_number}
 use Rattle.day_sums.proofs.RowLemmas.{small_days, small_numbers, small_view, is_open_within, raised_parts}
@@ -15,8 +15,8 @@ raise_in-requires-clause-open c =
     let es = c.self.inside.numbers.entries in
     let at = to_z-of_z w64 c.number_of-at.result (search rules) ∙ c.number_of-at.ensures.value in
     let number = to_z-of_z w64 c.wide-number.result (search rules) ∙ c.wide-number.ensures.value in
-    ap (λ (n : ℤ). has n (points_at es (to_z w64 (of_z w64 c.number_of-at.result)))) number ∙ ap
-    (λ (k : ℤ). has (pos c.args.number) (points_at es k)) at
+    ap (λ (n : ℤ). has_point n (points_at es (to_z w64 (of_z w64 c.number_of-at.result)))) number ∙ ap
+    (λ (k : ℤ). has_point (pos c.args.number) (points_at es k)) at
     ∙ (is_open_within (c.self.inside.days, es) c.args.day c.args.number
     (ap (λ (r : Kept). has_number r c.args.day c.args.number) c.self.view_is ∙ c.requires.open)).1
 

@@ -3,7 +3,7 @@ use Rattle.std.specs.Prelude.{insert}
 use Rattle.std.specs.List.{prefix_len}
 use Rattle.std.proofs.lemmas.Int.{to_z-of_z}
 use Rattle.day_sums.specs.declared.points.Point.{Point}
-use Rattle.day_sums.specs.Points.{Ascends, SamePoints, is_before, is_there, base_at}
+use Rattle.day_sums.specs.Points.{Ascends, SamePoints, is_point_before, is_there, base_at}
 use Rattle.day_sums.proofs.OpenLemmas.{opened, inserted_is_opened, ascends_opened, same_opened}
 use Rattle.day_sums.proofs.points.Points.open.Goals as goal
 
@@ -14,8 +14,8 @@ now c =
     let n = c.count_before-place.result in
     let at = to_z-of_z w64 c.args.at (search rules) in
     inserted_is_opened c.args.at c.sum_before-sum.result ps c.insert.new.self.items n
-    (c.count_before-place.ensures.value ∙ ap (λ (a : ℤ). prefix_len (is_before a) c.deref.result.now) at ∙ ap
-    (λ (qs : List Point). prefix_len (is_before c.args.at) qs) c.deref.ensures.value)
+    (c.count_before-place.ensures.value ∙ ap (λ (a : ℤ). prefix_len (is_point_before a) c.deref.result.now) at ∙ ap
+    (λ (qs : List Point). prefix_len (is_point_before c.args.at) qs) c.deref.ensures.value)
     (ap (λ (qs : List Point). is_there c.args.at qs n) (sym c.deref-2.ensures.value) ∙ ap
     (λ (a : ℤ). is_there a c.deref-2.result.now n) (sym at) ∙ sym c.is_there.ensures ∙ c.if-is_there.false)
     (c.sum_before-sum.ensures ∙ ap (λ (qs : List Point). base_at (pos 0) qs n) c.deref-3.ensures.value)

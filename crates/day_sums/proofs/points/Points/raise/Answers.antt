@@ -4,7 +4,7 @@ use Rattle.std.specs.List.{prefix_len, AllByRecursion}
 use Rattle.std.proofs.lemmas.Int.{to_z-of_z}
 use Rattle.std.proofs.lemmas.List.{with_items_is}
 use Rattle.day_sums.specs.declared.points.Point.{Point}
-use Rattle.day_sums.specs.Points.{Ascends, RaisedPoints, IsUpTo, sum_at, has, is_before, raised_from}
+use Rattle.day_sums.specs.Points.{Ascends, RaisedPoints, IsUpTo, point_sum, has_point, is_point_before, raised_from}
 use Rattle.day_sums.proofs.RaiseLemmas.{raised, small_points, same_raised, ascends_raised, length-raised}
 use Rattle.day_sums.proofs.points.Points.raise.Goals as goal
 
@@ -13,7 +13,7 @@ raise_from-requires-clause-sums c =
     subst (λ (ps : List Point). AllByRecursion (λ (p : Point). IsUpTo 40000000000000000 p.sum) ps)
     (sym c.deref_mut.ensures.value)
     (small_points 40000000000000000 (pos 0) c.self.inside.points.items c.self.invariant
-    (λ d. subst (λ (ps : List Point). IsUpTo 40000000000000000 (sum_at (pos 0) ps d)) (sym c.self.view_is)
+    (λ d. subst (λ (ps : List Point). IsUpTo 40000000000000000 (point_sum (pos 0) ps d)) (sym c.self.view_is)
     (c.requires.sums d)))
 
 -- the points as they are left
@@ -25,8 +25,8 @@ now c =
     (to_z-of_z w64 c.args.qty (search rules))
     ∙ ap (λ (qs : List Point). raised_from c.count_before-start.result c.args.qty qs) c.deref_mut.ensures.value
     ∙ ap (λ (n : ℕ). raised_from n c.args.qty ps)
-    (c.count_before-start.ensures.value ∙ ap (λ (a : ℤ). prefix_len (is_before a) c.deref.result.now)
-    (to_z-of_z w64 c.args.at (search rules)) ∙ ap (λ (qs : List Point). prefix_len (is_before c.args.at) qs)
+    (c.count_before-start.ensures.value ∙ ap (λ (a : ℤ). prefix_len (is_point_before a) c.deref.result.now)
+    (to_z-of_z w64 c.args.at (search rules)) ∙ ap (λ (qs : List Point). prefix_len (is_point_before c.args.at) qs)
     c.deref.ensures.value)
 
 items : (c : goal.After-self-1)
@@ -46,4 +46,4 @@ returns c =
     (subst (λ (qs : List Point). RaisedPoints c.args.at c.args.qty qs
     (raised c.args.at c.args.qty c.self.inside.points.items)) c.self.view_is
     (same_raised c.args.at c.args.qty c.self.inside.points.items
-    (subst (λ (qs : List Point). has c.args.at qs ≡ _) (sym c.self.view_is) c.requires.open) c.self.invariant))
+    (subst (λ (qs : List Point). has_point c.args.at qs ≡ _) (sym c.self.view_is) c.requires.open) c.self.invariant))

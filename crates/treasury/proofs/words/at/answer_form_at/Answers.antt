@@ -1,7 +1,7 @@
 use Rattle.std.proofs.Common.{◌∙◌, Bool, Some, ap, sym, subst, inl, inr}
 use Rattle.clap.specs.Matches.{found_of}
 use Rattle.clap.specs.Walk.{rows_of}
-use Rattle.treasury_requests.specs.Form.{shown}
+use Rattle.treasury_requests.specs.Form.{form_view}
 use Rattle.treasury_spelling.specs.Spelling.{given}
 use Rattle.treasury.specs.OverFileParts.{spoken}
 use Rattle.money_core.specs.declared.cause.Cause.{Cause}
@@ -21,7 +21,7 @@ returns-in-Ok c =
 pub returns-in-Err : goal.returns-in-Err
 returns-in-Err c =
     inr (
-      shown c.in-Some.form,
+      form_view c.in-Some.form,
       sym c.in-Some.ensures.value,
       inl (subst (λ (cause : Cause). IsRefusedBy cause (spoken c.refused-in-Err.result)) c.in-Err.ensures.memory
           c.refused-in-Err.ensures),

@@ -2,7 +2,7 @@ use Rattle.std.proofs.Common.{◌∙◌, Bool, Some, ap, sym, inr}
 use Rattle.clap.specs.Matches.{found_of}
 use Rattle.clap.specs.Walk.{rows_of}
 use Rattle.sqlite_wal.specs.Files.{image_at}
-use Rattle.treasury_requests.specs.Form.{shown}
+use Rattle.treasury_requests.specs.Form.{form_view}
 use Rattle.treasury_spelling.specs.Spelling.{is_dry_run, given}
 use Rattle.treasury.specs.OverFileParts.{spoken}
 use Rattle.treasury.proofs.OverFileLemmas.{said_alike, says_before}
@@ -21,10 +21,10 @@ returns-in-Ok g c =
 pub returns-in-Err : goal.returns-in-Err
 returns-in-Err g c =
     inr (
-      shown c.in-Some.form,
+      form_view c.in-Some.form,
       sym c.in-Some.ensures.value,
       says_before _ (image_at g.S.Start)
-          (given (is_dry_run (rows_of (found_of c.args.values.now))) (shown c.in-Some.form))
+          (given (is_dry_run (rows_of (found_of c.args.values.now))) (form_view c.in-Some.form))
           c.refused-in-Err.result c.in-Err.cause
           c.before-in-Err.result c.before-in-Err.ensures c.in-Err.ensures.memory c.refused-in-Err.ensures,
     )

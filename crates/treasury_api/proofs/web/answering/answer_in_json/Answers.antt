@@ -3,7 +3,7 @@ use Rattle.http_request.specs.declared.call.Form.TheVariants as form
 use Rattle.book_core.specs.declared.refusal.Refusal.{Refusal}
 use Rattle.treasury_core.specs.declared.command.Answer.{Answer}
 use Rattle.treasury_requests.specs.Request.{is_report}
-use Rattle.money_core.specs.Cause.{number_of}
+use Rattle.money_core.specs.Cause.{cause_number}
 use Rattle.treasury_api.specs.Replied.{IsAnsweredIn}
 use Rattle.treasury_api.specs.WebReply.{status_of, form_of_reply}
 use Rattle.treasury_api.specs.WebServing.{code_of}
@@ -69,5 +69,5 @@ returns-in-Err-clause-leaves g c = record {
 
 pub returns-in-Err-clause-form : goal.returns-in-Err-clause-form
 returns-in-Err-clause-form g c =
-    json_status (number_of c.refuse_in_json-object.result.cause)
+    json_status (cause_number c.refuse_in_json-object.result.cause)
     ∙ ap (form_of_reply form.Json) (sym c.status_of.ensures)

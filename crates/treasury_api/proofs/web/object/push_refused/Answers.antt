@@ -1,5 +1,5 @@
 use Rattle.std.proofs.Common.{◌≡◌, ◌++◌, ◌∙◌, List, ℕ, OnOk, ap, subst, decimal, length}
-use Rattle.money_core.specs.Cause.{number_of, name_of}
+use Rattle.money_core.specs.Cause.{cause_number, cause_name}
 use Rattle.treasury_told.specs.Sentence.{sentence_of}
 use Rattle.treasury_api.proofs.ObjectLemmas.{refused_as, refused_fits}
 use Rattle.treasury_api.proofs.web.object.push_refused.Goals as goal

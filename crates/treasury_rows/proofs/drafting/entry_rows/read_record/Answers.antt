@@ -3,7 +3,7 @@ use Rattle.std.proofs.lemmas.Int.{to_z-of_z}
 use Rattle.book_core.specs.declared.entry.Entry.{Entry}
 use Rattle.journal_format.specs.declared.txn.Txn.{Txn}
 use Rattle.journal_format.specs.Mark.{is_mark}
-use Rattle.journal_balance.specs.Legs.{legs_of}
+use Rattle.journal_balance.specs.Legs.{balanced_entry}
 use Rattle.treasury_state.specs.Good.{IsGoodRecord}
 use Rattle.treasury_state.specs.Rows.{entry_row}
 use Rattle.treasury_state.proofs.EntryRowLemmas.{record_only}
@@ -46,7 +46,7 @@ returns-in_err-entry-clause-reads c =
       only = c.in_ok-txn.ensures.reads;
       mark = c.in_ok-own.ensures.equal;
     })
-    (subst (λ (x : Txn). IsFault (λ (y : Entry). legs_of c.args.styles.now x ≡ Ok y) c.in_err-entry.field-0.0)
+    (subst (λ (x : Txn). IsFault (λ (y : Entry). balanced_entry c.args.styles.now x ≡ Ok y) c.in_err-entry.field-0.0)
     c.with_mark-txn.ensures c.in_err-entry.ensures.reads))
 
 pub returns-then-not-is_day-clause-reads : goal.returns-then-not-is_day-clause-reads
@@ -59,7 +59,7 @@ returns-then-not-is_day-clause-reads c =
       only = c.in_ok-txn.ensures.reads;
       mark = c.in_ok-own.ensures.equal;
     })
-    (subst (λ (x : Txn). (y : Entry) → legs_of c.args.styles.now x ≡ Ok y → y ≡ c.in_ok-entry.entry)
+    (subst (λ (x : Txn). (y : Entry) → balanced_entry c.args.styles.now x ≡ Ok y → y ≡ c.in_ok-entry.entry)
     c.with_mark-txn.ensures c.in_ok-entry.ensures.reads)
     (λ e. let k : true ≡ false =
     sym (c.is_day.ensures.1 (e ∙ sym (to_z-of_z w64 c.args.row.now.day (search rules)))) ∙ c.if-not-is_day.true in cc)
@@ -77,7 +77,7 @@ returns-clause-reads c = λ r p.
       mark = c.in_ok-own.ensures.equal;
     })
     c.in_ok-mark.ensures.equal
-    (subst (λ (x : Txn). (y : Entry) → legs_of c.args.styles.now x ≡ Ok y → y ≡ c.in_ok-entry.entry)
+    (subst (λ (x : Txn). (y : Entry) → balanced_entry c.args.styles.now x ≡ Ok y → y ≡ c.in_ok-entry.entry)
     c.with_mark-txn.ensures c.in_ok-entry.ensures.reads) r p
     ∙ sym whole
 
@@ -91,7 +91,7 @@ returns-clause-good c =
     (record_good c.args.styles.now c.in_ok-txn.txn c.in_ok-own.own c.in_ok-mark.mark c.in_ok-entry.entry
     (c.in_ok-own.ensures.equal ∙ sym c.in_ok-mark.ensures.equal)
     (printable_marked c.args.styles.now c.in_ok-txn.txn c.in_ok-own.own c.in_ok-txn.ensures.printable named)
-    (subst (λ (x : Txn). legs_of c.args.styles.now x ≡ Ok c.in_ok-entry.entry) c.with_mark-txn.ensures
+    (subst (λ (x : Txn). balanced_entry c.args.styles.now x ≡ Ok c.in_ok-entry.entry) c.with_mark-txn.ensures
     c.in_ok-entry.ensures.legs))
 
 pub returns-clause-same : goal.returns-clause-same

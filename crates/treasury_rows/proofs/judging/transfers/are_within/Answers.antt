@@ -2,7 +2,7 @@ use Rattle.std.proofs.Common.{◌≡◌, ◌+◌, ◌-ℤ◌, pos, drop, arith, 
 use Rattle.std.specs.Prelude.{int_le}
 use Rattle.std.proofs.lemmas.Int.{ints, to_z-of_z}
 use Rattle.money_core.proofs.TestLemmas.{le_from_int_le}
-use Rattle.treasury_state.specs.Transfer.{sum_of}
+use Rattle.treasury_state.specs.Transfer.{sum_of_parts}
 use Rattle.treasury_state.proofs.PartLemmas.{IsPositive, sum_low, sum_more, all_left}
 use Rattle.treasury_rows.proofs.SameRowLemmas.{says_no}
 use Rattle.treasury_rows.proofs.judging.transfers.are_within.Goals as goal
@@ -17,8 +17,8 @@ returns-then-part-left c =
     let rest = sum_low (drop (i + 1) ps) each.1 in
     let less = c.part.invariant.less in
     let more = c.if-part-left.true in
-    says_no (int_le (sum_of ps) c.args.qty ≡ true)
-    (λ e. let within = le_from_int_le (sum_of ps) c.args.qty e in omega (arith, ints))
+    says_no (int_le (sum_of_parts ps) c.args.qty ≡ true)
+    (λ e. let within = le_from_int_le (sum_of_parts ps) c.args.qty e in omega (arith, ints))
 
 pub part-preserved : goal.part-preserved
 part-preserved c =

@@ -4,7 +4,7 @@ use Rattle.sqlite_value.specs.Value.{owned}
 use Rattle.sqlite.specs.Values.{bound}
 use Rattle.sqlite.specs.State.{Executes}
 use Rattle.sqlite.specs.Held.{state}
-use Rattle.treasury_tables.specs.Rows.{with_lock}
+use Rattle.treasury_tables.specs.Rows.{tables_with_lock}
 use Rattle.treasury_tables.proofs.Texts.{lock_text}
 use Rattle.treasury_tables.proofs.InsideLemmas.{one_statement_writes}
 use Rattle.treasury_tables.proofs.LockLemmas.{locks}
@@ -21,6 +21,6 @@ returns-clause-writes g c =
     let is : bound (c.to_sql-nr.result ∷ c.to_sql-locked.result ∷ []) ≡ Int c.args.branch ∷ Int c.args.day ∷ [] =
     rw (is_nr, is_locked) in
     one_statement_writes g.S.Store _ _ _ _ _ _ c.execute.ensures.ended c.execute.ensures.runs c.execute.ensures.survives
-    (with_lock c.args.branch c.args.day)
+    (tables_with_lock c.args.branch c.args.day)
     (λ count t holds h. locks c.args.branch c.args.day old new t count holds
     (subst (λ ps. Executes lock_text ps old new (Ok count)) is h))

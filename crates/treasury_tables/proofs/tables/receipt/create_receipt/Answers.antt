@@ -1,5 +1,5 @@
 use Rattle.sqlite.specs.Held.{state}
-use Rattle.treasury_tables.specs.Tables.{receipt}
+use Rattle.treasury_tables.specs.Tables.{receipt_table}
 use Rattle.treasury_tables.proofs.InsideLemmas.{one_statement_creates}
 use Rattle.treasury_tables.proofs.CreateLemmas.{makes_receipt}
 use Rattle.treasury_tables.proofs.tables.receipt.create_receipt.Goals as goal
@@ -7,5 +7,5 @@ use Rattle.treasury_tables.proofs.tables.receipt.create_receipt.Goals as goal
 pub returns-clause-creates : goal.returns-clause-creates
 returns-clause-creates g c =
     one_statement_creates g.S.Store _ _ _ _ _ _ c.execute.ensures.ended c.execute.ensures.runs
-    c.execute.ensures.survives receipt (λ count none h. makes_receipt (state g.S.Store c.args.tx.now.conn.now)
+    c.execute.ensures.survives receipt_table (λ count none h. makes_receipt (state g.S.Store c.args.tx.now.conn.now)
     (state g.S.Store c.execute.new.self.conn.now) count none h)

@@ -4,7 +4,7 @@ use Rattle.sqlite_value.specs.Value.{owned}
 use Rattle.sqlite.specs.Values.{bound}
 use Rattle.sqlite.specs.State.{Executes}
 use Rattle.sqlite.specs.Held.{state}
-use Rattle.treasury_tables.specs.Rows.{part_row, with_part}
+use Rattle.treasury_tables.specs.Rows.{values_of_part, tables_with_part}
 use Rattle.treasury_tables.proofs.Texts.{add_part_text}
 use Rattle.treasury_tables.proofs.InsideLemmas.{one_statement_writes}
 use Rattle.treasury_tables.proofs.RowsLemmas.{adds_part}
@@ -25,9 +25,9 @@ returns-clause-writes g c =
     c.to_sql-received.ensures ∙ ap Int (to_z-of_z fits_received) in
     let is_payee : owned c.to_sql-payee.result ≡ Text row.payee = c.to_sql-payee.ensures ∙ ap Text c.as_str-3.ensures in
     let is : bound (c.to_sql-transfer.result ∷ c.to_sql-part.result ∷ c.to_sql-qty.result ∷ c.to_sql-received.result
-    ∷ c.to_sql-payee.result ∷ []) ≡ part_row row =
+    ∷ c.to_sql-payee.result ∷ []) ≡ values_of_part row =
     rw (is_transfer, is_part, is_qty, is_received, is_payee) in
     one_statement_writes g.S.Store _ _ _ _ _ _ c.execute.ensures.ended c.execute.ensures.runs c.execute.ensures.survives
-    (with_part row)
+    (tables_with_part row)
     (λ count t holds h. adds_part row old new t count holds
     (subst (λ ps. Executes add_part_text ps old new (Ok count)) is h))

@@ -5,7 +5,7 @@ use Rattle.sqlite_value.specs.Value.{owned}
 use Rattle.sqlite.specs.Values.{bound, or_null}
 use Rattle.sqlite.specs.State.{Executes}
 use Rattle.sqlite.specs.Held.{state}
-use Rattle.treasury_tables.specs.Rows.{transfer_row, with_transfer}
+use Rattle.treasury_tables.specs.Rows.{values_of_transfer, tables_with_transfer}
 use Rattle.treasury_tables.proofs.Texts.{add_transfer_text}
 use Rattle.treasury_tables.proofs.InsideLemmas.{one_statement_writes}
 use Rattle.treasury_tables.proofs.RowsLemmas.{adds_transfer, bound_day, bound_words}
@@ -34,7 +34,7 @@ returns-clause-writes g c =
     let is_received : owned c.to_sql-received.result ≡ or_null Int row.received = c.to_sql-received.ensures in
     let is : bound (c.to_sql-id.result ∷ c.to_sql-source.result ∷ c.to_sql-target.result ∷ c.to_sql-unit.result
     ∷ c.to_sql-qty.result ∷ c.to_sql-dispatched.result ∷ c.to_sql-payer.result ∷ c.to_sql-received.result
-    ∷ c.text_or_null-payee.result ∷ []) ≡ transfer_row row =
+    ∷ c.text_or_null-payee.result ∷ []) ≡ values_of_transfer row =
     rw (
       is_id,
       is_source,
@@ -50,6 +50,6 @@ returns-clause-writes g c =
     Text row.id ∷ Int row.source ∷ Int row.target ∷ Int row.unit ∷ Int row.qty ∷ Int row.dispatched ∷ Text row.payer
     ∷ x ∷ y ∷ []) (bound_day row.received) (bound_words row.payee)) in
     one_statement_writes g.S.Store _ _ _ _ _ _ c.execute.ensures.ended c.execute.ensures.runs c.execute.ensures.survives
-    (with_transfer row)
+    (tables_with_transfer row)
     (λ count t holds h. adds_transfer row old new t count holds
     (subst (λ ps. Executes add_transfer_text ps old new (Ok count)) is h))

@@ -4,7 +4,7 @@ use Rattle.sqlite_value.specs.Value.{owned}
 use Rattle.sqlite.specs.Values.{bound}
 use Rattle.sqlite.specs.State.{Executes}
 use Rattle.sqlite.specs.Held.{state}
-use Rattle.treasury_tables.specs.Rows.{with_receipt}
+use Rattle.treasury_tables.specs.Rows.{tables_with_receipt}
 use Rattle.treasury_tables.proofs.Texts.{receive_text}
 use Rattle.treasury_tables.proofs.InsideLemmas.{one_statement_writes}
 use Rattle.treasury_tables.proofs.ReceiptLemmas.{receives}
@@ -22,6 +22,6 @@ returns-clause-writes g c =
     ≡ Text id ∷ Int c.args.day ∷ Text payee ∷ [] =
     rw (c.to_sql-key.ensures, is_day, c.to_sql-account.ensures) in
     one_statement_writes g.S.Store _ _ _ _ _ _ c.execute.ensures.ended c.execute.ensures.runs c.execute.ensures.survives
-    (with_receipt id c.args.day payee)
+    (tables_with_receipt id c.args.day payee)
     (λ count t holds h. receives id c.args.day payee old new t count holds
     (subst (λ ps. Executes receive_text ps old new (Ok count)) is h))

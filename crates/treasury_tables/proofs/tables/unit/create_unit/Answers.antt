@@ -1,5 +1,5 @@
 use Rattle.sqlite.specs.Held.{state}
-use Rattle.treasury_tables.specs.Tables.{unit}
+use Rattle.treasury_tables.specs.Tables.{unit_table}
 use Rattle.treasury_tables.proofs.InsideLemmas.{one_statement_creates}
 use Rattle.treasury_tables.proofs.CreateLemmas.{makes_unit}
 use Rattle.treasury_tables.proofs.tables.unit.create_unit.Goals as goal
@@ -7,6 +7,6 @@ use Rattle.treasury_tables.proofs.tables.unit.create_unit.Goals as goal
 pub returns-clause-creates : goal.returns-clause-creates
 returns-clause-creates g c =
     one_statement_creates g.S.Store _ _ _ _ _ _ c.execute.ensures.ended c.execute.ensures.runs
-    c.execute.ensures.survives unit
+    c.execute.ensures.survives unit_table
     (λ count none h. makes_unit (state g.S.Store c.args.tx.now.conn.now) (state g.S.Store c.execute.new.self.conn.now)
     count none h)

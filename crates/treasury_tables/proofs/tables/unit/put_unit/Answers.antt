@@ -4,7 +4,7 @@ use Rattle.sqlite_value.specs.Value.{owned}
 use Rattle.sqlite.specs.Values.{bound}
 use Rattle.sqlite.specs.State.{Executes}
 use Rattle.sqlite.specs.Held.{state}
-use Rattle.treasury_tables.specs.Rows.{unit_row, with_unit}
+use Rattle.treasury_tables.specs.Rows.{values_of_unit, tables_with_unit}
 use Rattle.treasury_tables.proofs.Texts.{add_unit_text}
 use Rattle.treasury_tables.proofs.InsideLemmas.{one_statement_writes}
 use Rattle.treasury_tables.proofs.RowsLemmas.{adds_unit}
@@ -33,9 +33,9 @@ returns-clause-writes g c =
     let is_spaced : owned c.to_sql-spaced.result ≡ Int row.spaced =
     c.to_sql-spaced.ensures ∙ ap Int (to_z-of_z fits_spaced) in
     let is : bound (c.to_sql-nr.result ∷ c.to_sql-symbol.result ∷ c.to_sql-decimals.result ∷ c.to_sql-mark.result
-    ∷ c.to_sql-grouped.result ∷ c.to_sql-leftside.result ∷ c.to_sql-spaced.result ∷ []) ≡ unit_row row =
+    ∷ c.to_sql-grouped.result ∷ c.to_sql-leftside.result ∷ c.to_sql-spaced.result ∷ []) ≡ values_of_unit row =
     rw (is_nr, is_symbol, is_decimals, is_mark, is_grouped, is_leftside, is_spaced) in
     one_statement_writes g.S.Store _ _ _ _ _ _ c.execute.ensures.ended c.execute.ensures.runs c.execute.ensures.survives
-    (with_unit row)
+    (tables_with_unit row)
     (λ count t holds h. adds_unit row old new t count holds
     (subst (λ ps. Executes add_unit_text ps old new (Ok count)) is h))

@@ -5,7 +5,7 @@ use Rattle.std.proofs.lemmas.Result.{on_ok_weaker}
 use Rattle.journal_format.specs.Printable.{IsPrintable}
 use Rattle.treasury_told.specs.declared.explain.standing.Standing.{Standing}
 use Rattle.treasury_told.specs.declared.explain.touching.Watched.{Watched}
-use Rattle.treasury_told.specs.Failure.{list_text, touching_leg}
+use Rattle.treasury_told.specs.Failure.{touching_list_text, touching_leg}
 use Rattle.treasury_told.proofs.FailureLemmas.{found_all, no_list}
 use Rattle.treasury_told.proofs.explain.failure.push_touching_leg.Goals as goal
 
@@ -21,7 +21,7 @@ pub returns-in_ok-new-in-Ok-Some-clause-value : goal.returns-in_ok-new-in-Ok-Som
 returns-in_ok-new-in-Ok-Some-clause-value c =
     let watched = rw c.in-Ok-Some.field-0-is at c.in-Ok-Some.ensures.value in
     let text : List Standing → _ = λ new. c.args.out.now.items
-    ++ list_text c.args.styles.now c.args.records.now c.args.source.now new in
+    ++ touching_list_text c.args.styles.now c.args.records.now c.args.source.now new in
     on_ok_weaker c.push_list.result
     (λ e. e
     ∙ ap (λ (xs : List (Bor Standing)). text (map (λ (s : Bor Standing). s.now) xs)) c.as_slice.ensures.value
@@ -34,7 +34,7 @@ pub returns-in-Ok-None-clause-value : goal.returns-in-Ok-None-clause-value
 returns-in-Ok-None-clause-value c =
     let watched = rw c.in-Ok-None.field-0-is at c.in-Ok-None.ensures.value in
     let text : List Standing → _ = λ new. c.args.out.now.items
-    ++ list_text c.args.styles.now c.args.records.now c.args.source.now new in
+    ++ touching_list_text c.args.styles.now c.args.records.now c.args.source.now new in
     sym (append-nil c.args.out.now.items)
     ∙ ap (λ xs. c.args.out.now.items ++ xs)
     (sym (no_list c.args.styles.now c.args.records.now c.args.source.now))

@@ -3,10 +3,10 @@ use Rattle.std.proofs.lemmas.Result.{on_ok_weaker}
 use Rattle.money_core.specs.declared.day.Day.{Day}
 use Rattle.treasury_state.specs.Federation.{Federation, lock_of}
 use Rattle.treasury_requests.specs.declared.request.Request.{Request}
-use Rattle.treasury_told.specs.Lock.{branch_of, branch_lock, close_hint, locked_line, locked_text, lock_text}
+use Rattle.treasury_told.specs.Lock.{branch_asked, branch_lock, close_hint, locked_line, locked_text, lock_text}
 use Rattle.treasury_told.proofs.explain.held.push_lock.Goals as goal
 
-lock_is : (f : Federation) (request : Request) (name : List ℕ) (day : Day) → Some name ≡ branch_of request
+lock_is : (f : Federation) (request : Request) (name : List ℕ) (day : Day) → Some name ≡ branch_asked request
     → Some day ≡ lock_of f name → locked_line name day ++ close_hint request ≡ lock_text f request
 unfolding lock_text
 lock_is f request name day branch lock =

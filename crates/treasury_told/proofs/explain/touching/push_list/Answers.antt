@@ -4,7 +4,7 @@ use Rattle.std.specs.List.{AllByRecursion}
 use Rattle.std.proofs.lemmas.Result.{on_ok_weaker}
 use Rattle.journal_format.specs.Printable.{IsPrintable}
 use Rattle.treasury_told.specs.declared.explain.standing.Standing.{Standing}
-use Rattle.treasury_told.specs.Failure.{touching_text, list_text, most_listed}
+use Rattle.treasury_told.specs.Failure.{touching_text, touching_list_text, most_listed}
 use Rattle.treasury_told.proofs.FailureLemmas.{all_take, listed_text}
 use Rattle.treasury_told.proofs.explain.touching.push_list.Goals as goal
 
@@ -15,7 +15,7 @@ push_each-requires c =
     (all_take printable most_listed c.args.new.now c.requires)
 
 pub returns-clause-value : goal.returns-clause-value
-unfolding list_text
+unfolding touching_list_text
 returns-clause-value c =
     on_ok_weaker c.push_more.result
     (λ e. listed_text (touching_text c.args.styles.now c.args.records.now c.args.source.now) c.args.new.now
