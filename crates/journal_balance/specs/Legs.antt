@@ -139,10 +139,6 @@ is_even styles ps =
 abbrev pub is_large : Leg → Bool
 is_large x = nat_lt limit (unsigned_abs x.qty)
 
--- a leg of the posting is over the limit
-abbrev pub has_large_leg : List Style → List Posting → Posting → Bool
-has_large_leg styles all p = list_any is_large (posting_legs styles all p.account p.amount p.price)
-
 -- the first fault of a transaction: 17, then 12 and 13 posting by posting, then 18, then 28
 unfoldable pub balancing_fault : List Style → Txn → Option Cause
 balancing_fault styles t =

@@ -4,7 +4,7 @@ ghost use Rattle.std.specs.Prelude.{◌≡◌, Err, ◌⊎◌, ◌∷◌, [], tr
 ghost use Rattle.std.specs.Result.{IsOkUnless};
 ghost use Rattle.std.specs.List.{list_all, list_any, count_by};
 ghost use Rattle.journal_format.specs.Printable.{is_posting, IsPrintable};
-ghost use Rattle.journal_balance.specs.Legs.{is_without_amount, is_large, has_large_leg, legs_among, claims_among};
+ghost use Rattle.journal_balance.specs.Legs.{is_without_amount, is_large, posting_legs, legs_among, claims_among};
 ghost use Rattle.journal_balance.specs.Legs.{balancing_fault, balanced_entry};
 
 use crate::entering::{push_claim, push_posting};
@@ -33,7 +33,8 @@ fn has_open(postings: &[Posting]) -> bool
 fn takes_too_much(posting: &Posting, postings: &[Posting], styles: &Styles) -> bool
     requires posting { is_posting styles.now posting.now ≡ true }
     requires postings { list_all (is_posting styles.now) postings.now ≡ true }
-    ensures { result ≡ has_large_leg styles.now postings.now posting.now }
+    ensures { result ≡ list_any is_large
+        (posting_legs styles.now postings.now posting.now.account posting.now.amount posting.now.price) }
 {
     match posting.amount {
         Some(_) => false,
