@@ -1,12 +1,11 @@
 //! Records, read from the rows of entries.
 
 ghost use Rattle.std.specs.Prelude.{◌≡◌, ◌↔◌, ◌∷◌, [], Ok, Some, None, pos, List, IfOk, IsTrue};
-ghost use Rattle.std.specs.List.{list_all, AllByRecursion};
+ghost use Rattle.std.specs.List.{AllByRecursion};
 ghost use Rattle.std.specs.Result.{IsOkUnless};
 ghost use Rattle.book_core.specs.declared.entry.Entry.{Entry as BookEntry};
 ghost use Rattle.journal_format.specs.declared.txn.Txn.{Txn as Transaction};
 ghost use Rattle.journal_format.specs.CanonicalText.{body_text, marked};
-ghost use Rattle.journal_format.specs.Mark.{is_mark, is_mark_byte};
 ghost use Rattle.journal_format.specs.Pieces.{located, Reads};
 ghost use Rattle.journal_format.specs.Printable.{IsPrintable};
 ghost use Rattle.journal_balance.specs.Legs.{balanced_entry};
@@ -18,7 +17,7 @@ ghost use Rattle.treasury_rows.specs.Drafted.{IsReading};
 use super::number::{are_equal, damage, is_day, is_number};
 use book_core::Entry;
 use journal_balance::legs;
-use journal_format::{Txn, read_journal};
+use journal_format::{Txn, is_mark, read_journal};
 use money_core::{Cause, Copied, Items, Styles, Text};
 use std::alloc::Global;
 use treasury_state::{EntryRow, Record, text_of};
@@ -70,32 +69,6 @@ fn read_entry(alloc: Global, styles: &Styles, txn: &Txn) -> Result<Entry, Cause>
         Ok(entry) => Ok(entry),
         Err(cause) => Err(damage(cause)),
     }
-}
-
-/// Whether the byte may stand in a mark.
-fn is_mark_byte(byte: u8) -> bool
-    ensures { result ≡ is_mark_byte byte }
-{
-    byte.is_ascii_alphabetic()
-        || byte.is_ascii_digit()
-        || byte == b'-'
-        || byte == b'.'
-        || byte == b'_'
-        || byte == b':'
-}
-
-/// Whether each byte may stand in a mark.
-fn has_mark_bytes(text: &[u8]) -> bool
-    ensures { result ≡ list_all is_mark_byte text.now }
-{
-    text.iter().all(|b| is_mark_byte(*b))
-}
-
-/// Whether the text is a well-formed mark.
-fn is_mark(text: &[u8]) -> bool
-    ensures { result ≡ is_mark text.now }
-{
-    !text.is_empty() && text.len() < 101 && has_mark_bytes(text)
 }
 
 /// The same items, in no more room than they need.
