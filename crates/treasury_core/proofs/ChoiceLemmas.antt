@@ -42,14 +42,15 @@ pub record IsChoice (c : Choice) : Type 0 where
   pub apart : is_selected c.accounts (target_in c.into) ≡ false
   pub short : length (list_text (listed_names c.accounts)) ≤ 880
 
-true_from_not_false : (b : Bool) → not b ≡ false → b ≡ true
+pub true_from_not_false : (b : Bool) → not b ≡ false → b ≡ true
 true_from_not_false true e = refl
 true_from_not_false false e = absurd cc
 
 not_more : (n m : ℕ) → nat_lt m n ≡ false → n ≤ m
 not_more n m h = grind (arith, nat_tests)
 
-None_only_if_false : (b : Bool) (e : Refusal) (o : Option Refusal) → (if b then Some e else o) ≡ None → (b ≡ false)
+-- a refusal that does not come
+pub None_only_if_false : (b : Bool) (e : Refusal) (o : Option Refusal) → (if b then Some e else o) ≡ None → (b ≡ false)
     × (o ≡ None)
 None_only_if_false true e o h = absurd cc
 None_only_if_false false e o h = (refl, h)

@@ -68,6 +68,7 @@ use Rattle.treasury_core.proofs.TransferLemmas.{left_high}
 use Rattle.treasury_core.proofs.ReceiveLemmas.{IsReceipt}
 use Rattle.treasury_core.proofs.KeepLemmas.{good_branch, good_style, own_entries, good_entered, good_locked}
 use Rattle.treasury_core.proofs.KeepLemmas.{good_closed}
+use Rattle.treasury_core.proofs.ChoiceLemmas.{true_from_not_false, None_only_if_false}
 use Rattle.treasury_core.proofs.ClosingReply.{not_more, closing_record_good, closing_record_own}
 use Rattle.treasury_core.proofs.DispatchLemmas.{good_dispatched, good_received}
 use Rattle.treasury_core.proofs.ProductLemmas.{IsWritable, dispatch_good, receipt_good}
@@ -193,11 +194,6 @@ done_enter f name file a good fits h =
     (file_accepted f name file a h).passes
 
 -- a refusal that does not come
-None_only_if_false : (t : Bool) (e : Refusal) (o : Option Refusal) → (if t then Some e else o) ≡ None → (t ≡ false)
-    × (o ≡ None)
-None_only_if_false true e o h = absurd cc
-None_only_if_false false e o h = (refl, h)
-
 keeps_to : (t : Bool) (e : Refusal) (o : Option Refusal) → (if not t then Some e else o) ≡ None
     → (t ≡ true) × (o ≡ None)
 keeps_to true e o h = (refl, h)
@@ -324,18 +320,15 @@ late_from : (s r : ℤ) → int_lt r s ≡ false → int_le s r ≡ true
 late_from s r h = grind (arith, ints)
 
 -- what is asked for, by whether a part is
-not_false : (b : Bool) → not b ≡ false → b ≡ true
-not_false true h = refl
-not_false false h = absurd cc
-
 key_at : (o : Option AskedPart) → has_bad_key o ≡ false → is_all (key_of o) ≡ false → is_key (key_of o) ≡ true
 key_at None h e = absurd (let k : true ≡ false = e in cc)
-key_at (Some a) h e = not_false (is_key a.key) h
+key_at (Some a) h e = true_from_not_false (is_key a.key) h
 
 whole_at : (t : Transfer) (o : Option AskedPart) → has_bad_key o ≡ false → is_all (key_of o) ≡ true
     → qty_of t o ≡ left_of t
 whole_at t None h e = refl
-whole_at t (Some a) h e = absurd (let k : true ≡ false = sym e ∙ not_all a.key (not_false (is_key a.key) h) in cc)
+whole_at t (Some a) h e =
+    absurd (let k : true ≡ false = sym e ∙ not_all a.key (true_from_not_false (is_key a.key) h) in cc)
 
 at_most : (y z : ℤ) → int_lt y z ≡ false → z ≤ℤ y
 at_most y z h = grind (arith, ints)

@@ -44,6 +44,7 @@ use Rattle.treasury_core.specs.Step.{receipt_of, has_key, is_amount_so, is_recei
 use Rattle.treasury_core.specs.Step.{receipt_refusal, held_reply, receipt_reply, reply, added, delta, Decides}
 use Rattle.treasury_core.specs.Fits.{IsReceive}
 use Rattle.treasury_core.proofs.TransferLemmas.{left_low, left_high}
+use Rattle.treasury_core.proofs.ChoiceLemmas.{true_from_not_false}
 
 -- what was tested of equal texts, and looked up
 pub same_test : {x y a b : List ℕ} {t : Bool} → x ≡ a → y ≡ b → bytes_eq x y ≡ t → bytes_eq a b ≡ t
@@ -213,14 +214,10 @@ or_none : (o : Option Part) → option_or o None ≡ o
 or_none None = refl
 or_none (Some p) = refl
 
-not_no : (b : Bool) → not b ≡ false → b ≡ true
-not_no true h = refl
-not_no false h = absurd cc
-
 pub so_part : (t : Transfer) (r : Receive) (a : AskedPart) → r.part ≡ Some a → has_bad_key r.part ≡ false
     → so_held t r ≡ option_map (is_received_so t r) (find (has_key a.key) t.parts)
 so_part t r a is fits =
-    let key : is_key a.key ≡ true = not_no (is_key a.key) (ap has_bad_key (sym is) ∙ fits) in
+    let key : is_key a.key ≡ true = true_from_not_false (is_key a.key) (ap has_bad_key (sym is) ∙ fits) in
     ap (λ (x : Option AskedPart). option_map (is_received_so t r) (find (has_key (key_of x)) (receipts_of t))) is
     ∙ ap (option_map (is_received_so t r))
     (find-append (has_key a.key) t.parts (of_rest t t.receipt)
