@@ -27,8 +27,8 @@ use Rattle.book_core.proofs.SumLemmas.{total-append, turnover_entry, turnover-dr
 -- ---- one leg
 -- of entry m, in a book of n entries, at a place in entry e
 module _ (m e n : ℕ) (low : 1 ≤ m) (high : m ≤ n) where
-  earlier : nat_le m (min (e - 1) n) ≡ nat_lt m e
-  earlier = by_order (cases_lt m e)
+  le_before_is_lt : nat_le m (min (e - 1) n) ≡ nat_lt m e
+  le_before_is_lt = by_order (cases_lt m e)
     where
       by_order : (m < e) ⊎ (e ≤ m) → nat_le m (min (e - 1) n) ≡ nat_lt m e
       by_order (inl h) = let a : nat_lt m e ≡ true =
@@ -64,7 +64,8 @@ module _ (m e n : ℕ) (low : 1 ≤ m) (high : m ≤ n) where
       && (is_eq (cond t Less (cond u Greater Equal)) && nat_eq m e) then q else pos 0)
   by_day q rest true u = omega (arith, ints)
   by_day q rest false true = refl
-  by_day q rest false false = by_entry q rest (nat_lt m e) (nat_eq m e) (nat_le m (min (e - 1) n)) earlier not_both
+  by_day q rest false false =
+      by_entry q rest (nat_lt m e) (nat_eq m e) (nat_le m (min (e - 1) n)) le_before_is_lt not_both
 
 -- ---- the legs of a book
 module _ (reach : Reach) (a : List ℕ) (u : Commodity) (p : Place) (n : ℕ) where
@@ -116,10 +117,10 @@ balance_place reach b a u p = entries_parts reach a u p (length b) 1 b (omega ar
 
 -- ---- the legs of the place's own entry
 module _ (test : Posted → Bool) (p : Place) where
-  none : (x : Posted) (t : Bool) (z : ℤ) → (int_eq x.place.day.0 p.day.0 && nat_eq x.place.entry p.entry) ≡ t
+  is_own_none : (x : Posted) (t : Bool) (z : ℤ) → (int_eq x.place.day.0 p.day.0 && nat_eq x.place.entry p.entry) ≡ t
       → t ≡ false → z ≡ pos 0 → (if is_own test p x then x.leg.qty else pos 0) +ℤ z ≡ pos 0
-  none x true z e f g = absurd (cc)
-  none x false z e f g = rw (e, g) (by_test (test x))
+  is_own_none x true z e f g = absurd (cc)
+  is_own_none x false z e f g = rw (e, g) (by_test (test x))
     where
       by_test : (s : Bool) → (if s && false then x.leg.qty else pos 0) +ℤ pos 0 ≡ pos 0
       by_test true = refl
@@ -128,7 +129,8 @@ module _ (test : Posted → Bool) (p : Place) where
   legs_none : (day : Day) (m k : ℕ) (legs : List Leg) → (int_eq day.0 p.day.0 && nat_eq m p.entry) ≡ false
       → total (is_own test p) (posted_legs day m k legs) ≡ pos 0
   legs_none day m k [] h = refl
-  legs_none day m k (x ∷ xs) h = none (record { place = record { day = day; entry = m; leg = k }; leg = x }) _ _ refl h
+  legs_none day m k (x ∷ xs) h =
+      is_own_none (record { place = record { day = day; entry = m; leg = k }; leg = x }) _ _ refl h
       (legs_none day m (k + 1) xs h)
 
   legs_all : (day : Day) (m k : ℕ) (legs : List Leg) → (int_eq day.0 p.day.0 && nat_eq m p.entry) ≡ true

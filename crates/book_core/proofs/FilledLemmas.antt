@@ -9,8 +9,9 @@ use Rattle.book_core.proofs.BookLemmas.{within_left}
 pub record Next (done : List Entry) (x : Entry) (rest all : List Entry) : Type 0 where
   pub split : done ++ x ∷ rest ≡ all
 
-pub next : (done left rest all : List Entry) (x : Entry) → left ≡ x ∷ rest → done ++ left ≡ all → Next done x rest all
-next done left rest all x e same = record { split = ap (λ (es : List Entry). done ++ es) (sym e) ∙ same }
+pub next_split : (done left rest all : List Entry) (x : Entry) → left ≡ x ∷ rest → done ++ left ≡ all
+    → Next done x rest all
+next_split done left rest all x e same = record { split = ap (λ (es : List Entry). done ++ es) (sym e) ∙ same }
 
 fit_at : (done rest : List Entry) (x : Entry) → AllByRecursion IsFit (done ++ x ∷ rest) → IsFit x
 fit_at [] rest x h = h.0

@@ -285,10 +285,10 @@ blank_long h good = (let a = length-append h.method (32 ∷ after_method h) in l
     good.method.0 in omega arith)
 
 module _ (text m : List ℕ) (small : length text + length m ≤ 16_384) where
-  build : (at : ℕ) (head : RequestHead) → IsRequestHead head → length head.fields ≤ 32
+  head_built : (at : ℕ) (head : RequestHead) → IsRequestHead head → length head.fields ≤ 32
       → text ++ end_at at ≡ print_blank head.blank ++ after_blank head → length (end_at at) ≤ length m → at < 14
       → EndsHead text
-  build at head good few is short one =
+  head_built at head good few is short one =
       let e : text ++ end_at at ≡ print_request head ++ [] = is ∙ sym (print_request-append head []) in
       record {
         at = at;
@@ -309,8 +309,8 @@ module _ (text m : List ℕ) (small : length text + length m ≤ 16_384) where
         (All-nil (λ b. IsTrue (is_token_byte b))),
   )
 
-  slash : (0 < length (codes "/")) × AllPass is_uri_byte (codes "/")
-  slash = (omega arith, All-cons (λ b. IsTrue (is_uri_byte b)) 47 [] refl (All-nil (λ b. IsTrue (is_uri_byte b))))
+  slash_bytes : (0 < length (codes "/")) × AllPass is_uri_byte (codes "/")
+  slash_bytes = (omega arith, All-cons (λ b. IsTrue (is_uri_byte b)) 47 [] refl (All-nil (λ b. IsTrue (is_uri_byte b))))
 
   slash_text : IsUtf8 (codes "/")
   unfolding lib.Utf8.encode
@@ -319,7 +319,7 @@ module _ (text m : List ℕ) (small : length text + length m ≤ 16_384) where
   -- in its empty lines, or after them
   at_start : (es : List LineEnd) → text ≡ print_blank es → 14 ≤ length m → EndsHead text
   at_start es is long =
-      build 12 (record {
+      head_built 12 (record {
         blank = es;
         method = codes "A";
         target = codes "/";
@@ -330,7 +330,7 @@ module _ (text m : List ℕ) (small : length text + length m ≤ 16_384) where
       })
       (record {
         method = token_a;
-        target = slash;
+        target = slash_bytes;
         target_text = slash_text;
         minor = omega arith;
         fields = All-nil IsField;
@@ -339,7 +339,7 @@ module _ (text m : List ℕ) (small : length text + length m ≤ 16_384) where
 
   in_blank : (es : List LineEnd) → text ≡ print_blank es ++ 13 ∷ [] → 15 ≤ length m → EndsHead text
   in_blank es is long =
-      build 13 (record {
+      head_built 13 (record {
         blank = es ++ crlf ∷ [];
         method = codes "A";
         target = codes "/";
@@ -350,7 +350,7 @@ module _ (text m : List ℕ) (small : length text + length m ≤ 16_384) where
       })
       (record {
         method = token_a;
-        target = slash;
+        target = slash_bytes;
         target_text = slash_text;
         minor = omega arith;
         fields = All-nil IsField;
@@ -364,7 +364,7 @@ module _ (text m : List ℕ) (small : length text + length m ≤ 16_384) where
   in_method : (h : RequestHead) (k n : List ℕ) → IsRequestHead h → h.method ≡ k ++ n → text ≡ print_blank h.blank ++ k
       → 0 < length k → 13 ≤ length m → EndsHead text
   in_method h k n good part is some long =
-      build 11 (record {
+      head_built 11 (record {
         blank = h.blank;
         method = k;
         target = codes "/";
@@ -375,7 +375,7 @@ module _ (text m : List ℕ) (small : length text + length m ≤ 16_384) where
       })
       (record {
         method = (some, prefix_pass is_token_byte k n h.method part good.method.1);
-        target = slash;
+        target = slash_bytes;
         target_text = slash_text;
         minor = omega arith;
         fields = All-nil IsField;
@@ -393,7 +393,7 @@ module _ (text m : List ℕ) (small : length text + length m ≤ 16_384) where
       → text ≡ print_blank h.blank ++ (h.method ++ 32 ∷ (h.target ++ 32 ∷ k)) → k ++ end_at at ≡ codes "HTTP/1.1\n\n"
       → length (end_at at) ≤ length m → at < 14 → EndsHead text
   in_version h k at good is whole short one =
-      build at (record {
+      head_built at (record {
         blank = h.blank;
         method = h.method;
         target = h.target;
@@ -424,7 +424,7 @@ module _ (text m : List ℕ) (small : length text + length m ≤ 16_384) where
       → text ≡ print_blank h.blank ++ (h.method ++ 32 ∷ (h.target ++ 32 ∷ (print_version h.minor ++ k)))
       → k ++ end_at 1 ≡ print_end e ++ 10 ∷ [] → 2 ≤ length m → EndsHead text
   at_line_end h k e good is whole long =
-      build 1 (record {
+      head_built 1 (record {
         blank = h.blank;
         method = h.method;
         target = h.target;
@@ -461,7 +461,7 @@ module _ (text m : List ℕ) (small : length text + length m ≤ 16_384) where
       ++ (h.method ++ 32 ∷ (h.target ++ 32 ∷ (print_version h.minor ++ (print_end h.line_end ++ k))))
       → EndsSection (length h.fields) k m → EndsHead text
   in_section h k good few is r =
-      build r.at (record {
+      head_built r.at (record {
         blank = h.blank;
         method = h.method;
         target = h.target;

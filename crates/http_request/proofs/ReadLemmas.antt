@@ -121,9 +121,9 @@ read_bad r0 r1 text bad =
 module _ (r0 r1 : Option (List ℕ)) (text : List ℕ) (headers : List HeaderSpan) (spans : RequestSpans)
     (h : HasHead r0 r1 text headers spans) (asked : Form)
     (is_asked : asked ≡ form_of (map (header_bytes text) (take spans.headers headers))) where
-  there : (P : List ℕ → List ℕ → Type 0) → P (span_bytes text spans.method) (path_of (span_bytes text spans.path))
+  head_there : (P : List ℕ → List ℕ → Type 0) → P (span_bytes text spans.method) (path_of (span_bytes text spans.path))
       → P h.head.method (path_of h.head.target)
-  there P leads = subst (λ (t : List ℕ). P h.head.method (path_of t)) h.at.path
+  head_there P leads = subst (λ (t : List ℕ). P h.head.method (path_of t)) h.at.path
       (subst (λ (m : List ℕ). P m (path_of (span_bytes text spans.path))) h.at.method leads)
 
   -- the form that it asks for
@@ -160,7 +160,7 @@ module _ (r0 r1 : Option (List ℕ)) (text : List ℕ) (headers : List HeaderSpa
         seen = text;
         read = h.read;
         bounded = (let b = h.bounded in omega arith);
-        calls = (h.head, h.rest, h.is_head, foreign_is false own, there HasNoRoute none);
+        calls = (h.head, h.rest, h.is_head, foreign_is false own, head_there HasNoRoute none);
         asks = asks_here;
         stops = h.stops;
       })
@@ -171,7 +171,7 @@ module _ (r0 r1 : Option (List ℕ)) (text : List ℕ) (headers : List HeaderSpa
       leading route leads = record {
         is_head = h.is_head;
         own = foreign_is false own;
-        leads = there (λ (m p : List ℕ). LeadsTo m p route) leads;
+        leads = head_there (λ (m p : List ℕ). LeadsTo m p route) leads;
       }
 
       by_route : (route : Routed) → LeadsTo (span_bytes text spans.method) (path_of (span_bytes text spans.path)) route
@@ -272,7 +272,7 @@ module _ (r0 r1 : Option (List ℕ)) (text : List ℕ) (headers : List HeaderSpa
       (own : is_foreign (map (header_bytes text) (take spans.headers headers)) ≡ false)
       (leads : LeadsTo (span_bytes text spans.method) (path_of (span_bytes text spans.path)) (commands branch)) where
     leads_there : LeadsTo h.head.method (path_of h.head.target) (commands branch)
-    leads_there = there (λ (m p : List ℕ). LeadsTo m p (commands branch)) leads
+    leads_there = head_there (λ (m p : List ℕ). LeadsTo m p (commands branch)) leads
 
     size_is : (o : Option ℕ) → body_length (map (header_bytes text) (take spans.headers headers)) ≡ o
         → body_length_of h.head ≡ o

@@ -92,8 +92,8 @@ abbrev tail_of : List ℕ → List ℕ → List ℕ → List ℕ
 tail_of x y own = x ++ 45 ∷ (y ++ 58 ∷ own)
 
 module _ (x y own : List ℕ) (is_x : IsNamePart x) (is_y : IsNamePart y) (is_own : IsNamePart own) where
-  size : length (tail_of x y own) ≤ 74
-  size = omega (
+  length_of_tail : length (tail_of x y own) ≤ 74
+  length_of_tail = omega (
     arith,
     length-append x (45 ∷ (y ++ 58 ∷ own)),
     length-append y (58 ∷ own),
@@ -102,49 +102,51 @@ module _ (x y own : List ℕ) (is_x : IsNamePart x) (is_y : IsNamePart y) (is_ow
     is_own.short,
   )
 
-  plain : list_all is_part_byte (between x y) ≡ true
-  plain = list_all-append is_part_byte x (45 ∷ y) ∙ and_from _ _ is_x.good (and_from _ _ refl is_y.good)
+  between_bytes : list_all is_part_byte (between x y) ≡ true
+  between_bytes = list_all-append is_part_byte x (45 ∷ y) ∙ and_from _ _ is_x.good (and_from _ _ refl is_y.good)
 
-  split : slice_split (λ b. b == 58) (tail_of x y own) ≡ between x y ∷ own ∷ []
-  split =
+  tail_split : slice_split (λ b. b == 58) (tail_of x y own) ≡ between x y ∷ own ∷ []
+  tail_split =
       ap (slice_split (λ b. b == 58)) (sym (append_assoc x (45 ∷ y) (58 ∷ own)))
       ∙ (slice_split_at (λ b. b == 58) (between x y) 58 own
-      (All-from_recursion (λ (b : ℕ). (b == 58) ≡ false) (between x y) (no_colons (between x y) plain)) refl
+      (All-from_recursion (λ (b : ℕ). (b == 58) ≡ false) (between x y) (no_colons (between x y) between_bytes)) refl
       ∙ ap (λ l. between x y ∷ l) (slice_split_none (λ b. b == 58) own
       (All-from_recursion (λ (b : ℕ). (b == 58) ≡ false) own (no_colons own is_own.good))))
 
-  both : list_all is_part (slice_split (λ b. b == 58) (tail_of x y own)) ≡ true
-  both =
-      ap (list_all is_part) split
+  parts_of_tail : list_all is_part (slice_split (λ b. b == 58) (tail_of x y own)) ≡ true
+  parts_of_tail =
+      ap (list_all is_part) tail_split
       ∙ and_from _ _ (some_part (length (between x y)) (omega (arith, length-append x (45 ∷ y))))
       (and_from _ _ (some_part (length own) is_own.some) refl)
 
-  bytes : list_all is_account_name_byte (tail_of x y own) ≡ true
-  bytes =
+  bytes_of_tail : list_all is_account_name_byte (tail_of x y own) ≡ true
+  bytes_of_tail =
       list_all-append is_account_name_byte x (45 ∷ (y ++ 58 ∷ own))
       ∙ and_from _ _ (all_named x is_x.good)
       (and_from _ _ refl
       (list_all-append is_account_name_byte y (58 ∷ own) ∙ and_from _ _ (all_named y is_y.good)
       (and_from _ _ refl (all_named own is_own.good))))
 
-  gaps : has_gap (tail_of x y own) ≡ false
-  gaps =
+  gap_of_tail : has_gap (tail_of x y own) ≡ false
+  gap_of_tail =
       let last = gap_last own is_own.single (ends_by_last own is_own.some is_own.last) in
       let second : has_gap (y ++ 58 ∷ own) ≡ false =
       gap_joined y 58 own is_y.single (ends_by_last y is_y.some is_y.last) (rw (no_gap 58 own refl, last) refl) in
       gap_joined x 45 (y ++ 58 ∷ own) is_x.single (ends_by_last x is_x.some is_x.last)
       (rw (no_gap 45 (y ++ 58 ∷ own) refl, second) refl)
 
-  formed : is_account (codes "equity:conversion:" ++ tail_of x y own) ≡ true
+  account_of_tail : is_account (codes "equity:conversion:" ++ tail_of x y own) ≡ true
   unfolding is_account
-  formed =
-      let short = at_most_200 (length (codes "equity:conversion:" ++ tail_of x y own)) (omega (arith, size)) in
+  account_of_tail =
+      let short = at_most_200 (length (codes "equity:conversion:" ++ tail_of x y own))
+      (omega (arith, length_of_tail)) in
       let whole : has_gap (codes "equity:conversion:" ++ tail_of x y own) ≡ false =
-      rw (no_gap 58 (tail_of x y own) refl, gaps) refl in
-      and_from _ _ (and_from _ _ (and_from _ _ (and_from _ _ short both) bytes) (not_from_false _ whole)) refl
+      rw (no_gap 58 (tail_of x y own) refl, gap_of_tail) refl in
+      and_from _ _ (and_from _ _ (and_from _ _ (and_from _ _ short parts_of_tail) bytes_of_tail)
+      (not_from_false _ whole)) refl
 
-  text : is_utf8 (codes "equity:conversion:" ++ tail_of x y own) ≡ true
-  text =
+  utf8_of_tail : is_utf8 (codes "equity:conversion:" ++ tail_of x y own) ≡ true
+  utf8_of_tail =
       utf8_joined (codes "equity:conversion:") (tail_of x y own) (utf8_low (codes "equity:conversion:") refl)
       (utf8_joined x (45 ∷ (y ++ 58 ∷ own)) is_x.utf8
       (utf8_joined (45 ∷ []) (y ++ 58 ∷ own) (utf8_low (45 ∷ []) refl)
@@ -157,7 +159,7 @@ unfolding conversion_account
 conversion_formed a b own h k o =
     let x = if_either IsNamePart (is_lt (name_cmp b a)) b a k h in
     let y = if_either IsNamePart (is_lt (name_cmp b a)) a b h k in
-    (formed (lesser a b) (greater a b) own x y o, text (lesser a b) (greater a b) own x y o)
+    (account_of_tail (lesser a b) (greater a b) own x y o, utf8_of_tail (lesser a b) (greater a b) own x y o)
 
 -- so are both of an exchange
 pub both_formed : (a b : List ℕ) → IsNamePart a → IsNamePart b

@@ -78,11 +78,11 @@ file_refused (why.Strange told) said refused = inr (inr refused)
 
 module _ {D : Type 0} (g : disk.Ghosts D) where
   -- its treasury answers a request, and the file is closed
-  pub over : (image : Image) (request : Spelled) (old new : Treasury (FileStore D g)) (text : List ℕ) (refused : Bool)
-      (closed : Files D)
+  pub answers_over : (image : Image) (request : Spelled) (old new : Treasury (FileStore D g)) (text : List ℕ)
+      (refused : Bool) (closed : Files D)
       → IsStarted g image old → SaysTo over_files old request text refused new → IsClosedAs g new.store.conn closed
       → AnswersOver g image request (record { text = text; refused = refused }) (Closed closed)
-  over image request old new text refused closed started says closes = record {
+  answers_over image request old new text refused closed started says closes = record {
     opened = started.opened;
     closed = closed;
     is_left = refl;
@@ -258,11 +258,11 @@ module _ {D : Type 0} (g : disk.Ghosts D) where
   )
 
   -- or what is said to it
-  pub told : {W : Type 0} (image : Image) (contents : W → Option (List ℕ)) (w0 w1 : W) (status : ℕ) (word : List ℕ)
+  pub word_told : {W : Type 0} (image : Image) (contents : W → Option (List ℕ)) (w0 w1 : W) (status : ℕ) (word : List ℕ)
       (values : List Row) (said : Spoken) (left : Left D g)
       → Tells contents w0 w1 status said → SaysToWord g image word values said left
       → IsTold g image contents w0 w1 status word values left
-  told image contents w0 w1 status word values said left tells says = (said, tells, inr says)
+  word_told image contents w0 w1 status word values said left tells says = (said, tells, inr says)
 
   -- what is told to one word is told to an equal one
   pub told_alike : {W : Type 0} (image : Image) (contents : W → Option (List ℕ)) (w0 w1 : W) (status : ℕ)

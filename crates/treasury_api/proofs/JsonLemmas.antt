@@ -185,22 +185,22 @@ module _ {S : Type 0} (g : Ghosts S) (new : Treasury S) (f : Federation) (status
   Refuses refusal = IsRefusedAs (λ (x : Federation) (asked : Result Asked Refusal) (r : Result Answer Refusal).
       IsBodyIn form.Json body x asked r) (λ (r : Result Answer Refusal). status ≡ status_of r) f refusal
 
-  coded : (refusal : Refusal) → cause ≡ cause_of refusal → status ≡ status_of (Err refusal)
-  coded refusal is = code ∙ ap (λ (c : Cause). status_of_number (cause_number c)) is
+  status_of_cause : (refusal : Refusal) → cause ≡ cause_of refusal → status ≡ status_of (Err refusal)
+  status_of_cause refusal is = code ∙ ap (λ (c : Cause). status_of_number (cause_number c)) is
 
   -- by its own object
   by_own : (refusal : Refusal) → text ≡ answer_text f.styles (Err refusal) → because ≡ cause_of refusal
       → IsJsonRefused (take (length text - 1) text) because body × (cause ≡ because) → Refuses refusal
   by_own refusal said is (own, same) = inl (
     refused_body f refusal body (refused_object f.styles refusal because text body said is own),
-    coded refusal (same ∙ is),
+    status_of_cause refusal (same ∙ is),
   )
 
   -- by that of 40 in its place
   by_memory : (refusal : Refusal) → is_failure (Err refusal) ≡ false → IsJsonOf f.styles (Err (Plain OutOfMemory)) body
       → cause ≡ OutOfMemory → Refuses refusal
   by_memory refusal harmless made is =
-      inr (refused_body f (Plain OutOfMemory) body made, harmless, coded (Plain OutOfMemory) is)
+      inr (refused_body f (Plain OutOfMemory) body made, harmless, status_of_cause (Plain OutOfMemory) is)
 
   memory_own : because ≡ OutOfMemory → text ≡ answer_text [] (Err (Plain OutOfMemory))
       → IsJsonOf f.styles (Err (Plain OutOfMemory)) body × (cause ≡ OutOfMemory)

@@ -142,13 +142,13 @@ module _ {D : Type 0} (g : disk.Ghosts D) where
   committed_in image c on k = sym (on.serves k).0.clean
 
   -- tables are made on a connection, and the file is closed
-  pub makes : (image : Image) (opened : Held (FileStore D g)) (s : Store (FileStore D g)) (closed : Files D)
+  pub tables_made : (image : Image) (opened : Held (FileStore D g)) (s : Store (FileStore D g)) (closed : Files D)
       → IsOpenedOn g image opened
       → ((file_state opened).now.schema ≡ no_schema → IsOf over_files s empty_state)
       → has_one (file_state opened).now.schema ≡ false
       → doubt (file_state opened).is_clean ≤ doubt (file_state s.conn).is_clean
       → IsClosedAs g s.conn closed → MakesOver g image (Closed closed)
-  makes image opened s closed on made free first closes = record {
+  tables_made image opened s closed on made free first closes = record {
     opened = opened;
     closed = closed;
     is_left = refl;

@@ -294,8 +294,8 @@ module _ (S : List Style) (N : List (List ℕ)) (f : Federation) (more : List (L
         receipts = IsPermutation-refl t.receipts;
       })
 
-  nowhere : (name : List ℕ) (r : Record) → length bs ≤ place_in N name → with_entered f name (r ∷ []) ≡ f
-  nowhere name r h = ap (λ (xs : List Branch). let g : Federation = record f { branches = xs } in g)
+  entered_nowhere : (name : List ℕ) (r : Record) → length bs ≤ place_in N name → with_entered f name (r ∷ []) ≡ f
+  entered_nowhere name r h = ap (λ (xs : List Branch). let g : Federation = record f { branches = xs } in g)
       (changed_past (with_records (r ∷ [])) name bs (place_past name h))
 
   record_step : (name : List ℕ) (r : Record) (c : Bool) → nat_lt (place_in N name) (length (records_each bs)) ≡ c
@@ -310,7 +310,7 @@ module _ (S : List Style) (N : List (List ℕ)) (f : Federation) (more : List (L
             (true≢false (sym (lt-ltb (place_in N name) (length (records_each bs)) (omega (arith, l, count_of))) ∙ e))
         | inr l ↦ l
       ] in
-      subst (λ (g : Federation). Same (rows_under S N f) (rows_under S N g)) (sym (nowhere name r past))
+      subst (λ (g : Federation). Same (rows_under S N f) (rows_under S N g)) (sym (entered_nowhere name r past))
       (same_refl (rows_under S N f))
 
   lock_rows : (name : List ℕ) (day : Day)
@@ -378,16 +378,17 @@ module _ (S : List Style) (N : List (List ℕ)) (f : Federation) (more : List (L
         receipts = same_rows _ _ (sym (new_leaves t f.transfers e));
       }
 
-  pub step : (x : Addition) → HaveOwnIds f.transfers → Finds f x
+  pub written_step : (x : Addition) → HaveOwnIds f.transfers → Finds f x
       → Same (written (changes_by S N (counts_of_numbering (numbers_of f)) x) (rows_under S N f))
       (rows_under S N (joined_one f x))
-  step (add.Commodity style) h found =
+  written_step (add.Commodity style) h found =
       let t = rows_under S N f in other_units t t _ _ (same_refl t) (one_more unit_row f.styles style)
-  step (add.Branch name) h found = branch_step name
-  step (add.Record name r) h found = record_step name r (nat_lt (place_in N name) (length (records_each bs))) refl
-  step (add.Dispatched t) h found = dispatched_step t found
-  step (add.Received id p) h found = received_step id p (is_all p.key) refl h found
-  step (add.Locked name day) h found = lock_step name day
+  written_step (add.Branch name) h found = branch_step name
+  written_step (add.Record name r) h found =
+      record_step name r (nat_lt (place_in N name) (length (records_each bs))) refl
+  written_step (add.Dispatched t) h found = dispatched_step t found
+  written_step (add.Received id p) h found = received_step id p (is_all p.key) refl h found
+  written_step (add.Locked name day) h found = lock_step name day
 
   -- the counts after it are those of the next state
   one_count : (name : List ℕ) (r : Record)
@@ -499,7 +500,7 @@ all_written S N (x ∷ xs) f e room found =
     let next = joined_one f x in
     let first = changes_by S N c x in
     let rest = changes_from S N (counts_after N c x) xs in
-    let one = step S N f w.0 w.1 x (own_ids f.transfers (room_back (x ∷ xs) f room).ids) found.0 in
+    let one = written_step S N f w.0 w.1 x (own_ids f.transfers (room_back (x ∷ xs) f room).ids) found.0 in
     let later = subst (λ (d : Counts).
     Same (written (changes_from S N d xs) (rows_under S N next)) (rows_under S N (joined next xs)))
     (sym (count_step S N f w.0 w.1 x)) (all_written S N xs next e room found.1) in

@@ -19,15 +19,16 @@ use Rattle.sqlite.specs.Table.{Table}
 module _ {S : Type 0} (g : Ghosts S) (old new : Held S) (sql : List ℕ) (params : Row) (r : Result ℕ Error) (e : Error)
     (ended : (state g old).in_transaction ≡ false → (r ≡ Err e) × (new ≡ old))
     (runs : IsTrue (state g old).in_transaction → ExecutesInside 0 sql params (state g old) (state g new) r) where
-  pub keeps : KeepsCommit (state g old) (state g new)
-  keeps = elim (cases_Bool (state g old).in_transaction) [
+  pub keeps_commit : KeepsCommit (state g old) (state g new)
+  keeps_commit = elim (cases_Bool (state g old).in_transaction) [
     | inl begun ↦ inside_keeps (state g old) (state g new) 0 false sql params r (runs (subst IsTrue (sym begun) refl))
     | inr closed ↦ subst (λ h. KeepsCommit (state g old) (state g h)) (sym (ended closed).1)
         (record { was_open = λ h. h; committed = λ h. refl })
   ]
 
-  pub ran : (P : Type 0) → ((count : ℕ) → Executes sql params (state g old) (state g new) (Ok count) → P) → OnOk r P
-  ran P then = elim (cases_Bool (state g old).in_transaction) [
+  pub ran_on_ok : (P : Type 0) → ((count : ℕ) → Executes sql params (state g old) (state g new) (Ok count) → P)
+      → OnOk r P
+  ran_on_ok P then = elim (cases_Bool (state g old).in_transaction) [
     | inl begun ↦ answer r (runs (subst IsTrue (sym begun) refl))
     | inr closed ↦ subst (λ r. OnOk r P) (sym (ended closed).0) tt
   ]
@@ -36,8 +37,8 @@ module _ {S : Type 0} (g : Ghosts S) (old new : Held S) (sql : List ℕ) (params
       answer (Ok count) h = then count h.0
       answer (Err e) h = tt
 
-  pub stays : OnOk r (IsTrue (state g new).in_transaction)
-  stays = elim (cases_Bool (state g old).in_transaction) [
+  pub still_inside : OnOk r (IsTrue (state g new).in_transaction)
+  still_inside = elim (cases_Bool (state g old).in_transaction) [
     | inl begun ↦ answer r (runs (subst IsTrue (sym begun) refl))
     | inr closed ↦ subst (λ r. OnOk r (IsTrue (state g new).in_transaction)) (sym (ended closed).0) tt
   ]
@@ -58,9 +59,9 @@ pub one_statement_writes : {S : Type 0} (g : Ghosts S) (old new : Held S) (sql :
     → Executes sql params (state g old) (state g new) (Ok count)
     → HoldsTables (state g new).now (change t)) → Writes g old new r change
 one_statement_writes g old new sql params r e ended runs survives change step = record {
-  rows = λ clean. ran g old new sql params r e ended (runs clean) _ (λ count h t holds. step count t holds h);
-  inside = λ clean. stays g old new sql params r e ended (runs clean);
-  kept = λ clean. keeps g old new sql params r e ended (runs clean);
+  rows = λ clean. ran_on_ok g old new sql params r e ended (runs clean) _ (λ count h t holds. step count t holds h);
+  inside = λ clean. still_inside g old new sql params r e ended (runs clean);
+  kept = λ clean. keeps_commit g old new sql params r e ended (runs clean);
   survives = survives;
 }
 
@@ -75,9 +76,9 @@ pub one_statement_creates : {S : Type 0} (g : Ghosts S) (old new : Held S) (sql 
     → Executes sql params (state g old) (state g new) (Ok count) → Makes table (state g old).now (state g new).now)
     → Creates g old new r table
 one_statement_creates g old new sql params r e ended runs survives table step = record {
-  makes = λ clean. ran g old new sql params r e ended (runs clean) _ (λ count h none. step count none h);
-  inside = λ clean. stays g old new sql params r e ended (runs clean);
-  kept = λ clean. keeps g old new sql params r e ended (runs clean);
+  makes = λ clean. ran_on_ok g old new sql params r e ended (runs clean) _ (λ count h none. step count none h);
+  inside = λ clean. still_inside g old new sql params r e ended (runs clean);
+  kept = λ clean. keeps_commit g old new sql params r e ended (runs clean);
   survives = survives;
 }
 

@@ -7,10 +7,10 @@ use Rattle.treasury_tables.specs.Kinds.{is_entry, is_leg, is_claim, is_single}
 
 module _ (p : Change → Bool) (apart : (c d : Change) (t : Tables) → p c ≡ true → p d ≡ false
     → tables_changed d (tables_changed c t) ≡ tables_changed c (tables_changed d t)) where
-  past : (c : Change) → p c ≡ false → (cs : List Change) (t : Tables)
+  written_past : (c : Change) → p c ≡ false → (cs : List Change) (t : Tables)
       → written (filter p cs) (tables_changed c t) ≡ tables_changed c (written (filter p cs) t)
-  past c out [] t = refl
-  past c out (d ∷ cs) t = go (p d) refl (past c out cs)
+  written_past c out [] t = refl
+  written_past c out (d ∷ cs) t = go (p d) refl (written_past c out cs)
     where
       go : (b : Bool) → p d ≡ b → ((u : Tables)
           → written (filter p cs) (tables_changed c u) ≡ tables_changed c (written (filter p cs) u))
@@ -31,7 +31,7 @@ module _ (p : Change → Bool) (apart : (c d : Change) (t : Tables) → p c ≡ 
           ≡ written (cond (not b) (c ∷ filter (λ d. not (p d)) cs) (filter (λ d. not (p d)) cs))
           (written (cond b (c ∷ filter p cs) (filter p cs)) t)
       go true e more = more
-      go false e more = more ∙ ap (written (filter (λ d. not (p d)) cs)) (past c e cs t)
+      go false e more = more ∙ ap (written (filter (λ d. not (p d)) cs)) (written_past c e cs t)
 
 -- a kind apart from another is not touched where the other is taken out
 pub filter_other_kind : (p q : Change → Bool) → ((c : Change) → q c ≡ true → p c ≡ false) → (cs : List Change)

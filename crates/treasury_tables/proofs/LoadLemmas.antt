@@ -59,10 +59,10 @@ module _ (schema : Schema) (tree : ℕ) (bare : (db : Trees) → overlay db [] t
     (shown : Row → Row) (keyed : Row → Output)
     (shows : (r : Row) → output (table_query tree [] columns order) (at [] r) ≡ keyed (shown r))
     (keyed_is : (s : Row) → (keyed s).1 ≡ s) where
-  answered : (old new : State) (rows : List Row) → old.now.schema ≡ schema → Shown sql [] old new rows
+  rows_answered : (old new : State) (rows : List Row) → old.now.schema ≡ schema → Shown sql [] old new rows
       → (ordered : List Output) × IsPermutation (map keyed (map shown (old.now.trees tree))) ordered
       × IsSorted (output_cmp (table_query tree [] columns order)) ordered × (rows ≡ map (λ o. o.1) ordered)
-  answered old new rows has h =
+  rows_answered old new rows has h =
       let db = old.now.trees in
       let q = table_query tree [] columns order in
       let got = reads_as sql [] old new schema has (Select (record { lets = []; body = q }) names) is plain
@@ -78,7 +78,7 @@ module _ (schema : Schema) (tree : ℕ) (bare : (db : Trees) → overlay db [] t
   pub as_shown : (old new : State) (rows : List Row) → old.now.schema ≡ schema → Shown sql [] old new rows
       → IsPermutation (map shown (old.now.trees tree)) rows
   as_shown old new rows has h =
-      let answer = answered old new rows has h in
+      let answer = rows_answered old new rows has h in
       let columns_of = map shown (old.now.trees tree) in
       let all : map (λ (o : Output). o.1) (map keyed columns_of) ≡ columns_of =
       map-map (λ (o : Output). o.1) keyed columns_of ∙ (λ i. map (λ s. keyed_is s i) columns_of) ∙ sym
@@ -94,7 +94,7 @@ module _ (schema : Schema) (tree : ℕ) (bare : (db : Trees) → overlay db [] t
         → Shown sql [] old new rows → rows ≡ map row_of xs
     in_order old new xs rows has same up h =
         let q = table_query tree [] columns order in
-        let answer = answered old new rows has h in
+        let answer = rows_answered old new rows has h in
         let both : IsPermutation (map (λ x. keyed (row_of x)) xs) answer.0 =
         IsPermutation-trans _ _ _ (subst (λ l. IsPermutation l (map keyed (map shown (old.now.trees tree))))
         (map-map keyed row_of xs) (IsPermutation-map keyed _ _ same)) answer.1 in

@@ -43,7 +43,7 @@ use Rattle.treasury_tables.proofs.Texts.{lock_text, lock_is, lock_filter, lock_t
 use Rattle.treasury_tables.proofs.RowLemmas.{puts_permute, cast_int, cast_null, none_chosen, without_same}
 use Rattle.treasury_tables.proofs.RowLemmas.{numbered_given}
 use Rattle.treasury_tables.proofs.QueryLemmas.{at, matched_int, answer_is}
-use Rattle.treasury_tables.proofs.UpdatedLemmas.{picked, updated}
+use Rattle.treasury_tables.proofs.UpdatedLemmas.{rows_picked, rows_updated}
 use Rattle.treasury_state.specs.declared.rows.BranchRow.{BranchRow}
 
 module _ (nr day : ℤ) where
@@ -66,8 +66,8 @@ module _ (nr day : ℤ) where
   abbrev recast : Row → Row
   recast s = cast_row branch_table (drop 1 s)
 
-  test : (r : Row) → list_all (holds (at given r)) lock_filter ≡ has_rowid nr r
-  test r = go (column r 0)
+  lock_filter_is : (r : Row) → list_all (holds (at given r)) lock_filter ≡ has_rowid nr r
+  lock_filter_is r = go (column r 0)
     where
       go : (v : Value) → (is_true (binary (Compare Eq Binary) v (Int nr)) && true) ≡ is_eq (value_cmp v (Int nr))
       go v = and-true _ ∙ matched_int v nr
@@ -75,16 +75,16 @@ module _ (nr day : ℤ) where
   id_is : (b : BranchRow) → has_rowid nr (values_of_branch b) ≡ is_it b
   id_is b = ap is_eq (value_cmp-Int b.nr nr)
 
-  stored : (b : BranchRow) → recast (asked (values_of_branch b)) ≡ Int b.nr ∷ Null ∷ Text b.name ∷ Int day ∷ []
-  stored b = simp (cast_int, cast_null)
+  branch_stored : (b : BranchRow) → recast (asked (values_of_branch b)) ≡ Int b.nr ∷ Null ∷ Text b.name ∷ Int day ∷ []
+  branch_stored b = simp (cast_int, cast_null)
 
-  back : (b : BranchRow) → shown_branch (recast (asked (values_of_branch b))) ≡ values_of_branch (relocked b)
-  back b = ap shown_branch (stored b)
+  branch_shown : (b : BranchRow) → shown_branch (recast (asked (values_of_branch b))) ≡ values_of_branch (relocked b)
+  branch_shown b = ap shown_branch (branch_stored b)
 
-  ids : (bs : List BranchRow) → AllByRecursion (λ r. id_in (rowid r) ≡ nr)
+  ids_of_locked : (bs : List BranchRow) → AllByRecursion (λ r. id_in (rowid r) ≡ nr)
       (map (λ b. asked (values_of_branch b)) (filter is_it bs))
-  ids [] = tt
-  ids (b ∷ bs) = go (is_it b) refl (ids bs)
+  ids_of_locked [] = tt
+  ids_of_locked (b ∷ bs) = go (is_it b) refl (ids_of_locked bs)
     where
       go : (t : Bool) → is_it b ≡ t → AllByRecursion (λ r. id_in (rowid r) ≡ nr)
           (map (λ b. asked (values_of_branch b)) (filter is_it bs))
@@ -112,9 +112,9 @@ module _ (nr day : ℤ) where
       ap (λ i. without_all (without_rowid i rows) (ids_of got)) all.0 ∙ without_same nr (ids_of got) rows
       (ids_same got all.1)
 
-  pub locks : (old new : State) (t : Tables) (count : ℕ) → HoldsTables old.now t
+  pub holds_locked : (old new : State) (t : Tables) (count : ℕ) → HoldsTables old.now t
       → Executes lock_text given old new (Ok count) → HoldsTables new.now (tables_with_lock nr day t)
-  locks old new t count holds h =
+  holds_locked old new t count holds h =
       let command = Update 2 (record { lets = []; body = lock_query }) in
       let w = runs_as lock_text given old new store_schema holds.shows.schema command lock_is.0 lock_is.1 count h in
       let text = statement_of lock_text (understood store_schema lock_text) in
@@ -128,21 +128,22 @@ module _ (nr day : ℤ) where
       let db = old.now.trees in
       let got = made.0 in
       let answer =
-      answer_is given 3 lock_filter lock_terms [] (has_rowid nr) test (overlay db []) got (made.2.answer Null) in
+      answer_is given 3 lock_filter lock_terms [] (has_rowid nr) lock_filter_is (overlay db []) got
+      (made.2.answer Null) in
       let shows : IsPermutation (map query (filter (has_rowid nr) (db 3))) got =
       subst₂ IsPermutation (map-map (λ (o : Output). o.1) (λ r. output lock_query (at given r))
       (filter (has_rowid nr) (db 3))) (sym answer.3) (IsPermutation-map (λ (o : Output). o.1) _ _ answer.1) in
       let these : IsPermutation (map values_of_branch (filter is_it bs))
       (map shown_branch (filter (has_rowid nr) (db 3))) =
-      picked values_of_branch shown_branch query recast (λ s. shown_branch (recast (asked s))) relocked is_it
-      (has_rowid nr) (has_rowid nr) (λ _. refl) id_is (λ _. refl) back bs (db 3) holds.shows.branches in
+      rows_picked values_of_branch shown_branch query recast (λ s. shown_branch (recast (asked s))) relocked is_it
+      (has_rowid nr) (has_rowid nr) (λ _. refl) id_is (λ _. refl) branch_shown bs (db 3) holds.shows.branches in
       let from : IsPermutation (map (λ b. asked (values_of_branch b)) (filter is_it bs)) got =
       IsPermutation-trans _ _ _ (subst₂ IsPermutation (map-map asked values_of_branch (filter is_it bs))
       (map-map asked shown_branch (filter (has_rowid nr) (db 3))) (IsPermutation-map asked _ _ these)) shows in
       let all : AllByRecursion (λ r. id_in (rowid r) ≡ nr) got =
       recursion_from_All (λ r. id_in (rowid r) ≡ nr) got
       (All-permutation (λ r. id_in (rowid r) ≡ nr) _ got from
-      (All-from_recursion (λ r. id_in (rowid r) ≡ nr) _ (ids bs))) in
+      (All-from_recursion (λ r. id_in (rowid r) ≡ nr) _ (ids_of_locked bs))) in
       let left = left_is (db 3) got all shows in
       let a = made.3 in
       let edit : Edit = edit_of db branch_table (ids_of got) Given 1 got in
@@ -156,9 +157,9 @@ module _ (nr day : ℤ) where
           units = subst (λ rs. IsPermutation (map values_of_unit t.units) (map shown_unit rs))
               (sym (a.tables.1.0 (omega arith))) holds.shows.units;
           branches =
-              updated values_of_branch shown_branch query recast (λ s. shown_branch (recast (asked s))) relocked is_it
-              (has_rowid nr) (has_rowid nr) (λ _. refl) id_is (λ _. refl) back bs (db 3) got (new.now.trees 3)
-              holds.shows.branches shows put;
+              rows_updated values_of_branch shown_branch query recast (λ s. shown_branch (recast (asked s))) relocked
+              is_it (has_rowid nr) (has_rowid nr) (λ _. refl) id_is (λ _. refl) branch_shown bs (db 3) got
+              (new.now.trees 3) holds.shows.branches shows put;
           entries = subst (λ rs. IsPermutation (map values_of_entry t.entries) (map shown_entry rs))
               (sym (a.tables.1.1.1.0 (omega arith))) holds.shows.entries;
           legs = subst (λ rs. IsPermutation (map values_of_leg t.legs) (map shown_leg rs))

@@ -220,26 +220,26 @@ queries_are_quiet q same = record {
 }
 
 module _ {S : Type 0} (g : Ghosts S) (a b c : Held S) (one : Quiet g a b) (two : KeepsTables g b c) where
-  cleaner : IsFaithful g c → IsFaithful g b
-  cleaner clean = omega (arith, two.clean, clean)
+  faithful_before : IsFaithful g c → IsFaithful g b
+  faithful_before clean = omega (arith, two.clean, clean)
 
-  ours : IsFaithful g c → (state g a).now.schema ≡ store_schema → (state g b).now.schema ≡ store_schema
-  ours clean has = ap (λ (d : Database). d.schema) (one.same (cleaner clean) has).0 ∙ has
+  schema_before : IsFaithful g c → (state g a).now.schema ≡ store_schema → (state g b).now.schema ≡ store_schema
+  schema_before clean has = ap (λ (d : Database). d.schema) (one.same (faithful_before clean) has).0 ∙ has
 
-  left : KeepsTables g a c
-  left = survives_then (state g a) (state g b) (state g c) _ _ _ (λ clean trees h. h)
-      (λ clean trees h has. h (ours clean has)) one.survives two
+  tables_left : KeepsTables g a c
+  tables_left = survives_then (state g a) (state g b) (state g c) _ _ _ (λ clean trees h. h)
+      (λ clean trees h has. h (schema_before clean has)) one.survives two
 
 pub quiet_more : {S X : Type 0} {g : Ghosts S} {a b c : Held S} {x : X} → Quiet g a b → Queries g b c (Ok x)
     → (IsFaithful g c → (state g b).now.schema ≡ store_schema → IsUnchanged (state g b) (state g c))
     → Quiet g a c
 quiet_more {g = g} {a = a} {b = b} {c = c} one two same = record {
-  opened = λ clean. ((one.opened (cleaner g a b c one two.survives clean)).0, (two.opened clean).1);
+  opened = λ clean. ((one.opened (faithful_before g a b c one two.survives clean)).0, (two.opened clean).1);
   same = λ clean has.
-      let first = one.same (cleaner g a b c one two.survives clean) has in
-      let second = (same clean (ours g a b c one two.survives clean has)).0 in
+      let first = one.same (faithful_before g a b c one two.survives clean) has in
+      let second = (same clean (schema_before g a b c one two.survives clean has)).0 in
       (second.now_is ∙ first.0, second.committed_is ∙ first.1);
-  survives = left g a b c one two.survives;
+  survives = tables_left g a b c one two.survives;
 }
 
 -- one that fails after them
@@ -247,12 +247,12 @@ pub quiet_error : {S X Y : Type 0} {g : Ghosts S} {a b c : Held S} (e : Error) (
     → IsErrAnd r (λ y. y ≡ e) → Quiet g a b → Queries {X = X} g b c (Err e) → Queries g a c r
 quiet_error {g = g} {a = a} {b = b} {c = c} e r is one two = of_error g a c e r is (record {
   opened = λ clean. tt;
-  was_open = λ clean is. (one.opened (cleaner g a b c one two.survives clean)).0;
+  was_open = λ clean is. (one.opened (faithful_before g a b c one two.survives clean)).0;
   undone = λ clean is has all.
-      let first = one.same (cleaner g a b c one two.survives clean) has in
-      let back = two.undone clean is (ours g a b c one two.survives clean has) (first.1 ∙ all ∙ sym first.0) in
+      let first = one.same (faithful_before g a b c one two.survives clean) has in
+      let back = two.undone clean is (schema_before g a b c one two.survives clean has) (first.1 ∙ all ∙ sym first.0) in
       (back.0 ∙ first.0, back.1 ∙ first.1);
-  survives = left g a b c one two.survives;
+  survives = tables_left g a b c one two.survives;
 })
 
 -- none that fails
@@ -270,7 +270,8 @@ pub seen_before : {S : Type 0} {g : Ghosts S} {a b : Held S} (c : Held S) (P : D
     → (IsFaithful g c → (state g b).now.schema ≡ store_schema → P (state g b).now) → IsFaithful g c
     → (state g a).now.schema ≡ store_schema → P (state g a).now
 seen_before {g = g} {a = a} {b = b} c P one two shown clean has =
-    subst P (one.same (cleaner g a b c one two clean) has).0 (shown clean (ours g a b c one two clean has))
+    subst P (one.same (faithful_before g a b c one two clean) has).0
+    (shown clean (schema_before g a b c one two clean has))
 
 -- after queries that changed nothing the tables hold the rows that they held
 pub still_held : {S : Type 0} {g : Ghosts S} {a b : Held S} (t : Tables) → HasReadFirst g a b → IsFaithful g b

@@ -41,10 +41,11 @@ module _ (params : Row) where
   abbrev pub at : Row → Env
   at r = params ∷ r ∷ []
 
-  chosen : (p : Row → Bool) (terms : List Term) → ((r : Row) → list_all (holds (at r)) terms ≡ p r) → (rows : List Row)
+  rows_chosen : (p : Row → Bool) (terms : List Term) → ((r : Row) → list_all (holds (at r)) terms ≡ p r)
+      → (rows : List Row)
       → flat_map (λ r. cond (list_all (holds (at r)) terms) (at r ∷ []) []) rows ≡ map at (filter p rows)
-  chosen p terms is [] = refl
-  chosen p terms is (r ∷ rows) = rw (is r) (first (p r) (chosen p terms is rows))
+  rows_chosen p terms is [] = refl
+  rows_chosen p terms is (r ∷ rows) = rw (is r) (first (p r) (rows_chosen p terms is rows))
     where
       first : (b : Bool) → flat_map (λ r. cond (list_all (holds (at r)) terms) (at r ∷ []) []) rows
           ≡ map at (filter p rows)
@@ -61,7 +62,7 @@ module _ (params : Row) where
       × IsSorted (output_cmp (table_query tree terms project order)) ordered × (rows ≡ map (λ o. o.1) ordered)
   answer_is tree terms project order p is db rows a =
       let q = table_query tree terms project order in
-      let staged : a.staged ≡ map at (filter p (db tree)) = a.grouped ∙ chosen p terms is (db tree) in
+      let staged : a.staged ≡ map at (filter p (db tree)) = a.grouped ∙ rows_chosen p terms is (db tree) in
       let kept : a.kept ≡ map (λ r. output q (at r)) (filter p (db tree)) =
       a.distinct ∙ ap (map (output q)) staged ∙ map-map (output q) at (filter p (db tree)) in
       (a.ordered, subst (λ k. IsPermutation k a.ordered) kept a.same, a.sorted, a.shown)

@@ -36,7 +36,7 @@ use Rattle.treasury_tables.proofs.Texts.{receive_text, receive_is, receive_filte
 use Rattle.treasury_tables.proofs.RowLemmas.{puts_permute, cast_int, cast_null, numbered_given}
 use Rattle.treasury_tables.proofs.QueryLemmas.{at, matched_text, answer_is}
 use Rattle.treasury_tables.proofs.KeyedLemmas.{without_chosen, shaped_puts}
-use Rattle.treasury_tables.proofs.UpdatedLemmas.{updated}
+use Rattle.treasury_tables.proofs.UpdatedLemmas.{rows_updated}
 use Rattle.treasury_state.specs.declared.rows.TransferRow.{TransferRow}
 
 module _ (id : List ℕ) (day : ℤ) (payee : List ℕ) where
@@ -71,22 +71,22 @@ module _ (id : List ℕ) (day : ℤ) (payee : List ℕ) where
   abbrev renewed : Row → Row
   renewed s = shown_transfer (recast (asked (Int (pos 0)) s))
 
-  test : (r : Row) → list_all (holds (at given r)) receive_filter ≡ has_id r
-  test r = and-true _ ∙ matched_text (column r 1) id
+  receive_filter_is : (r : Row) → list_all (holds (at given r)) receive_filter ≡ has_id r
+  receive_filter_is r = and-true _ ∙ matched_text (column r 1) id
 
   id_is : (x : TransferRow) → shows_id (values_of_transfer x) ≡ is_it x
   id_is x = ap is_eq (value_cmp-Text x.id id) ∙ is_eq-slice_cmp x.id id
 
-  stored : (x : TransferRow) → recast (asked (Int (pos 0)) (values_of_transfer x)) ≡ Int (pos 0) ∷ values_of_transfer
-      (settled x)
-  stored x = simp (cast_int, cast_null)
+  transfer_stored : (x : TransferRow)
+      → recast (asked (Int (pos 0)) (values_of_transfer x)) ≡ Int (pos 0) ∷ values_of_transfer (settled x)
+  transfer_stored x = simp (cast_int, cast_null)
 
-  back : (x : TransferRow) → renewed (values_of_transfer x) ≡ values_of_transfer (settled x)
-  back x = ap shown_transfer (stored x)
+  transfer_shown : (x : TransferRow) → renewed (values_of_transfer x) ≡ values_of_transfer (settled x)
+  transfer_shown x = ap shown_transfer (transfer_stored x)
 
-  pub receives : (old new : State) (t : Tables) (count : ℕ) → HoldsTables old.now t
+  pub holds_received : (old new : State) (t : Tables) (count : ℕ) → HoldsTables old.now t
       → Executes receive_text given old new (Ok count) → HoldsTables new.now (tables_with_receipt id day payee t)
-  receives old new t count holds h =
+  holds_received old new t count holds h =
       let command = Update 6 (record { lets = []; body = receive_query }) in
       let w = runs_as receive_text given old new store_schema holds.shows.schema command receive_is.0 receive_is.1
       count h in
@@ -101,7 +101,8 @@ module _ (id : List ℕ) (day : ℤ) (payee : List ℕ) where
       let got = made.0 in
       let a = made.3 in
       let answer =
-      answer_is given 12 receive_filter receive_terms [] has_id test (overlay db []) got (made.2.answer Null) in
+      answer_is given 12 receive_filter receive_terms [] has_id receive_filter_is (overlay db []) got
+      (made.2.answer Null) in
       let shows : IsPermutation (map query (filter has_id (db 12))) got =
       subst₂ IsPermutation (map-map (λ (o : Output). o.1) (λ r. output receive_query (at given r))
       (filter has_id (db 12))) (sym answer.3) (IsPermutation-map (λ (o : Output). o.1) _ _ answer.1) in
@@ -125,8 +126,9 @@ module _ (id : List ℕ) (day : ℤ) (payee : List ℕ) where
           claims = subst (λ rs. IsPermutation (map values_of_claim t.claims) (map shown_claim rs))
               (sym (a.tables.1.1.1.1.1.0 (omega arith))) holds.shows.claims;
           transfers =
-              updated values_of_transfer shown_transfer query recast renewed settled is_it has_id shows_id (λ _. refl)
-              id_is (λ _. refl) back t.transfers (db 12) got (new.now.trees 12) holds.shows.transfers shows put;
+              rows_updated values_of_transfer shown_transfer query recast renewed settled is_it has_id shows_id
+              (λ _. refl) id_is (λ _. refl) transfer_shown t.transfers (db 12) got (new.now.trees 12)
+              holds.shows.transfers shows put;
           receipts = subst (λ rs. IsPermutation (map values_of_part t.receipts) (map shown_part rs))
               (sym (a.tables.1.1.1.1.1.1.1.0 (omega arith))) holds.shows.receipts;
         };

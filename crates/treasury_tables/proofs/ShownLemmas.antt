@@ -31,15 +31,15 @@ claim_cut (x ∷ r) = refl
 
 -- rows that are put in without looking at their rowids
 module _ (front shown : Row → Row) (cuts : (r : Row) → front (drop 1 r) ≡ shown r) where
-  recut : (rows : List Row) → map front (map (drop 1) rows) ≡ map shown rows
-  recut rows = map-map front (drop 1) rows ∙ (λ i. map (λ r. cuts r i) rows)
+  map_recut : (rows : List Row) → map front (map (drop 1) rows) ≡ map shown rows
+  map_recut rows = map-map front (drop 1) rows ∙ (λ i. map (λ r. cuts r i) rows)
 
   shown_moved : (more old new : List Row) → map front more ≡ more
       → IsPermutation (more ++ map (drop 1) old) (map (drop 1) new)
       → IsPermutation (more ++ map shown old) (map shown new)
   shown_moved more old new same moved =
       subst₂ IsPermutation
-      (map-append front more (map (drop 1) old) ∙ ap₂ (λ l k. l ++ k) same (recut old)) (recut new)
+      (map-append front more (map (drop 1) old) ∙ ap₂ (λ l k. l ++ k) same (map_recut old)) (map_recut new)
       (IsPermutation-map front _ _ moved)
 
 pub entries_moved : (more old new : List Row) → map front5 more ≡ more

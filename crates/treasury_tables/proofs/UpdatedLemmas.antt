@@ -19,40 +19,40 @@ module _ {X : Type 0} (row : X → Row) (shown query recast renewed : Row → Ro
   abbrev changed_one : X → X
   changed_one x = cond (is_it x) (change x) x
 
-  pub picked : (xs : List X) (old : List Row) → IsPermutation (map row xs) (map shown old)
+  pub rows_picked : (xs : List X) (old : List Row) → IsPermutation (map row xs) (map shown old)
       → IsPermutation (map row (filter is_it xs)) (map shown (filter chosen old))
-  picked xs old same =
+  rows_picked xs old same =
       subst₂ IsPermutation (filter-map taken row xs ∙ ap (map row) (filter_same _ _ it_is xs))
       (filter-map taken shown old ∙ ap (map shown) (filter_same _ _ chosen_is old))
       (IsPermutation-filter taken _ _ same)
 
-  kept : (xs : List X) (old : List Row) → IsPermutation (map row xs) (map shown old)
+  rows_kept : (xs : List X) (old : List Row) → IsPermutation (map row xs) (map shown old)
       → IsPermutation (map row (filter (λ x. not (is_it x)) xs)) (map shown (filter (λ r. not (chosen r)) old))
-  kept xs old same =
+  rows_kept xs old same =
       subst₂ IsPermutation
       (filter-map (λ s. not (taken s)) row xs ∙ ap (map row) (filter_same _ _ (λ x. ap not (it_is x)) xs))
       (filter-map (λ s. not (taken s)) shown old ∙ ap (map shown) (filter_same _ _ (λ r. ap not (chosen_is r)) old))
       (IsPermutation-filter (λ s. not (taken s)) _ _ same)
 
-  fresh : (xs : List X) (old got : List Row) → IsPermutation (map row xs) (map shown old)
+  rows_fresh : (xs : List X) (old got : List Row) → IsPermutation (map row xs) (map shown old)
       → IsPermutation (map query (filter chosen old)) got
       → IsPermutation (map (λ x. row (change x)) (filter is_it xs)) (map shown (map recast got))
-  fresh xs old got same shows =
+  rows_fresh xs old got same shows =
       let these = filter is_it xs in
       let those = filter chosen old in
       let now : map (λ r. renewed (shown r)) those ≡ map (λ r. shown (recast (query r))) those =
       sym (λ i. map (λ r. renews r i) those) in
       IsPermutation-trans _ _ _
       (subst₂ IsPermutation (map-map renewed row these ∙ (λ i. map (λ x. back x i) these))
-      (map-map renewed shown those ∙ now) (IsPermutation-map renewed _ _ (picked xs old same)))
+      (map-map renewed shown those ∙ now) (IsPermutation-map renewed _ _ (rows_picked xs old same)))
       (subst₂ IsPermutation (map-map (λ s. shown (recast s)) query those) (sym (map-map shown recast got))
       (IsPermutation-map (λ s. shown (recast s)) _ _ shows))
 
-  pub updated : (xs : List X) (old got new : List Row) → IsPermutation (map row xs) (map shown old)
+  pub rows_updated : (xs : List X) (old got new : List Row) → IsPermutation (map row xs) (map shown old)
       → IsPermutation (map query (filter chosen old)) got
       → IsPermutation (map recast got ++ filter (λ r. not (chosen r)) old) new
       → IsPermutation (map row (map changed_one xs)) (map shown new)
-  updated xs old got new same shows put =
+  rows_updated xs old got new same shows put =
       let both = λ (x : X). row (changed_one x) in
       let parts : IsPermutation (map both xs) (map both (filter is_it xs) ++ map both (filter (λ x. not (is_it x)) xs))
       =
@@ -68,5 +68,6 @@ module _ {X : Type 0} (row : X → Row) (shown query recast renewed : Row → Ro
       (IsPermutation-map shown _ _ put) in
       subst (λ l. IsPermutation l (map shown new)) (sym (map-map row changed_one xs))
       (IsPermutation-trans _ _ _ (subst₂ (λ l k. IsPermutation (map both xs) (l ++ k)) first second parts)
-      (IsPermutation-trans _ _ _ (IsPermutation-append _ _ _ _ (fresh xs old got same shows) (kept xs old same))
+      (IsPermutation-trans _ _ _ (IsPermutation-append _ _ _ _ (rows_fresh xs old got same shows)
+      (rows_kept xs old same))
       columns))

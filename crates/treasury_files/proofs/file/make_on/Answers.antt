@@ -3,7 +3,7 @@ use Rattle.sqlite.specs.Held.{Held}
 use Rattle.treasury_store.specs.declared.store.Refused.{Refused}
 use Rattle.treasury_files.specs.Started.{IsClosedAs, IsStillOpen}
 use Rattle.treasury_files.proofs.LeftLemmas.{keeps_unmade, keeps_made}
-use Rattle.treasury_files.proofs.StartedLemmas.{makes}
+use Rattle.treasury_files.proofs.StartedLemmas.{tables_made}
 use Rattle.treasury_files.proofs.file.make_on.Goals as goal
 
 err_is : {X E : Type 0} (e d : E) → ◌≡◌ {A = Result X E} (Err e) (Err d) → e ≡ d
@@ -24,7 +24,7 @@ returns-in-Err g c = λ image on.
 
 pub returns-in-Ok-close : goal.returns-in-Ok-close
 returns-in-Ok-close g c = λ image on.
-    makes _ image c.args.conn c.in-Ok.store c.in-Ok-close.files on c.in-Ok.ensures.made c.in-Ok.ensures.free
+    tables_made _ image c.args.conn c.in-Ok.store c.in-Ok-close.files on c.in-Ok.ensures.made c.in-Ok.ensures.free
     c.in-Ok.ensures.clean
     (subst (λ (h : Held _). IsClosedAs _ h c.in-Ok-close.files) c.into_connection.ensures c.in-Ok-close.ensures)
 

@@ -1,6 +1,6 @@
 use Rattle.std.proofs.Common.{refl, inl, inr}
 use Rattle.treasury.specs.OverFile.{has_no_memory, cannot_be_used, is_answered}
-use Rattle.treasury.proofs.OverFileLemmas.{over, may_have_done}
+use Rattle.treasury.proofs.OverFileLemmas.{answers_over, may_have_done}
 use Rattle.treasury.proofs.words.over_file.answer_on_file.Goals as goal
 
 pub returns-in_default-clause-says : goal.returns-in_default-clause-says
@@ -9,7 +9,7 @@ returns-in_default-clause-says g c =
 
 pub returns-in-Ok-close_treasury-clause-says : goal.returns-in-Ok-close_treasury-clause-says
 returns-in-Ok-close_treasury-clause-says g c = λ image started.
-    is_answered (over _ image c.args.request.now c.args.treasury c.answer_word-said.new.treasury
+    is_answered (answers_over _ image c.args.request.now c.args.treasury c.answer_word-said.new.treasury
     c.answer_word-said.result.answer.items c.answer_word-said.result.is_refused c.in-Ok-close_treasury.files
     started c.answer_word-said.ensures.says c.in-Ok-close_treasury.ensures)
 

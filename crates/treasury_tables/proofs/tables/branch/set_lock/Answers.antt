@@ -7,7 +7,7 @@ use Rattle.sqlite.specs.Held.{state}
 use Rattle.treasury_tables.specs.Rows.{tables_with_lock}
 use Rattle.treasury_tables.proofs.Texts.{lock_text}
 use Rattle.treasury_tables.proofs.InsideLemmas.{one_statement_writes}
-use Rattle.treasury_tables.proofs.LockLemmas.{locks}
+use Rattle.treasury_tables.proofs.LockLemmas.{holds_locked}
 use Rattle.treasury_tables.proofs.tables.branch.set_lock.Goals as goal
 
 pub returns-clause-writes : goal.returns-clause-writes
@@ -22,5 +22,5 @@ returns-clause-writes g c =
     rw (is_nr, is_locked) in
     one_statement_writes g.S.Store _ _ _ _ _ _ c.execute.ensures.ended c.execute.ensures.runs c.execute.ensures.survives
     (tables_with_lock c.args.branch c.args.day)
-    (λ count t holds h. locks c.args.branch c.args.day old new t count holds
+    (λ count t holds h. holds_locked c.args.branch c.args.day old new t count holds
     (subst (λ ps. Executes lock_text ps old new (Ok count)) is h))

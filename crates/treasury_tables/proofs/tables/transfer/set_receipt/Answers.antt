@@ -7,7 +7,7 @@ use Rattle.sqlite.specs.Held.{state}
 use Rattle.treasury_tables.specs.Rows.{tables_with_receipt}
 use Rattle.treasury_tables.proofs.Texts.{receive_text}
 use Rattle.treasury_tables.proofs.InsideLemmas.{one_statement_writes}
-use Rattle.treasury_tables.proofs.ReceiptLemmas.{receives}
+use Rattle.treasury_tables.proofs.ReceiptLemmas.{holds_received}
 use Rattle.treasury_tables.proofs.tables.transfer.set_receipt.Goals as goal
 
 pub returns-clause-writes : goal.returns-clause-writes
@@ -23,5 +23,5 @@ returns-clause-writes g c =
     rw (c.to_sql-key.ensures, is_day, c.to_sql-account.ensures) in
     one_statement_writes g.S.Store _ _ _ _ _ _ c.execute.ensures.ended c.execute.ensures.runs c.execute.ensures.survives
     (tables_with_receipt id c.args.day payee)
-    (λ count t holds h. receives id c.args.day payee old new t count holds
+    (λ count t holds h. holds_received id c.args.day payee old new t count holds
     (subst (λ ps. Executes receive_text ps old new (Ok count)) is h))
