@@ -15,7 +15,7 @@ use Rattle.treasury_told.specs.OddAmount.{odd_amounts}
 use Rattle.treasury_told.specs.OddNotes.{odd_notes}
 use Rattle.treasury_told.specs.FarDays.{span_of, far_from, far_in, far_if_any, far_notes}
 use Rattle.treasury_told.specs.OtherBranch.{other_note}
-use Rattle.treasury_told.specs.FirstNotes.{first_notes, BeginsWith}
+use Rattle.treasury_told.specs.FirstNotes.{first_notes, BeginsWithNotes}
 use Rattle.treasury_told.proofs.OddNoteLemmas.{same_notes, nothing_new}
 
 pub all_drop : {X : Type 0} (P : X → Type 0) (xs : List X) (n : ℕ) → AllByRecursion P xs → AllByRecursion P (drop n xs)
@@ -24,14 +24,14 @@ all_drop P [] (suc n) h = h
 all_drop P (x ∷ xs) (suc n) h = all_drop P xs n h.1
 
 -- ---- notes that were appended
-pub none_begin : (notes old new : List ℕ) → notes ≡ [] → new ≡ old → BeginsWith notes old new
+pub none_begin : (notes old new : List ℕ) → notes ≡ [] → new ≡ old → BeginsWithNotes notes old new
 none_begin notes old new none e = record {
   rest = [];
   text = e ∙ sym (append-nil old) ∙ ap (λ (xs : List ℕ). old ++ (xs ++ [])) (sym none);
 }
 
 two_begin : (far odd further old one two new : List ℕ) → one ≡ old ++ far → two ≡ one ++ odd → new ≡ two ++ further
-    → BeginsWith (far ++ odd) old new
+    → BeginsWithNotes (far ++ odd) old new
 two_begin far odd further old one two new e f g = record {
   rest = further;
   text = appended_thrice old one two new far odd further e f g
@@ -40,12 +40,12 @@ two_begin far odd further old one two new e f g = record {
 
 -- whatever came of the further ones
 pub begin_with_two : {T E : Type 0} (r : Result T E) (far odd further old one two new : List ℕ) → one ≡ old ++ far
-    → two ≡ one ++ odd → new ≡ two ++ further → OnOk r (BeginsWith (far ++ odd) old new)
+    → two ≡ one ++ odd → new ≡ two ++ further → OnOk r (BeginsWithNotes (far ++ odd) old new)
 begin_with_two (Ok x) far odd further old one two new e f g = two_begin far odd further old one two new e f g
 begin_with_two (Err e) far odd further old one two new f g h = tt
 
-pub other_begins : (other notes old now new : List ℕ) → now ≡ old ++ other → BeginsWith notes now new
-    → BeginsWith (other ++ notes) old new
+pub other_begins : (other notes old now new : List ℕ) → now ≡ old ++ other → BeginsWithNotes notes now new
+    → BeginsWithNotes (other ++ notes) old new
 other_begins other notes old now new e h = record {
   rest = h.rest;
   text = h.text

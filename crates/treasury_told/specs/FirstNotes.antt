@@ -21,6 +21,6 @@ notes_first f name source text count list =
     first_notes f name source text held (drop count (records_of f name)) (added_lines f.styles held list)
 
 -- what is appended begins with these notes
-pub record BeginsWith (notes old new : List ℕ) : Type 0 where
+pub record BeginsWithNotes (notes old new : List ℕ) : Type 0 where
   pub rest : List ℕ
   pub text : new ≡ old ++ (notes ++ rest)

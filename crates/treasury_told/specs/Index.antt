@@ -20,12 +20,12 @@ abbrev pub is_on : ℤ → Record → Bool
 is_on day r = int_eq r.entry.day.0 day
 
 -- the day is among days
-abbrev pub has_day : HashMap ℤ (Unit {0}) (BuildHasherDefault FoldHasher) → ℤ → Bool
-has_day days day = is_some (get int_eq days day)
+abbrev pub is_day_among : HashMap ℤ (Unit {0}) (BuildHasherDefault FoldHasher) → ℤ → Bool
+is_day_among days day = is_some (get int_eq days day)
 
 -- what is kept under the day and the legs of an entry
-abbrev pub place_of : HashMap DayLegs ℕ (BuildHasherDefault FoldHasher) → Entry → Option ℕ
-place_of holders e = get_by (λ (key : DayLegs). same_day_legs e key.entry.now) holders
+abbrev pub kept_place : HashMap DayLegs ℕ (BuildHasherDefault FoldHasher) → Entry → Option ℕ
+kept_place holders e = get_by (λ (key : DayLegs). same_day_legs e key.entry.now) holders
 
 -- what a leg, and what a day and legs feed a hasher
 abbrev pub leg_writes : Leg → List (List ℕ)

@@ -22,13 +22,13 @@ AreAllPrintable styles records = AllByRecursion (λ (r : Record). IsPrintable st
 abbrev pub has_text_of : List Style → Record → Record → Bool
 has_text_of styles r other = not (is_marked r) || bytes_eq (body_text styles r.txn) (body_text styles other.txn)
 
-abbrev pub is_same : List Style → Record → Option Record → Bool
-is_same styles r None = false
-is_same styles r (Some other) = has_text_of styles r other
+abbrev pub has_text_of_held : List Style → Record → Option Record → Bool
+has_text_of_held styles r None = false
+has_text_of_held styles r (Some other) = has_text_of styles r other
 
 -- one of the records has the mark and the text of this one
 abbrev pub is_held_so : List Style → List Record → Record → Bool
-is_held_so styles records r = is_same styles r (held records r.mark)
+is_held_so styles records r = has_text_of_held styles r (held records r.mark)
 
 -- how many of the new records the branch of that name holds so
 abbrev pub held_count : Federation → List ℕ → List Record → ℕ

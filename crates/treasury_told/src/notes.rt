@@ -21,7 +21,7 @@ ghost use Rattle.treasury_state.specs.Federation.{records_of};
 ghost use Rattle.treasury_told.specs.declared.notes.BranchBefore.{BranchBefore as HeldOfBranch};
 ghost use Rattle.treasury_told.specs.Added.{added_lines, IsTaken, IsEntered};
 ghost use Rattle.treasury_told.specs.OtherBranch.{AreAllPrintable};
-ghost use Rattle.treasury_told.specs.FirstNotes.{first_notes, notes_first, BeginsWith};
+ghost use Rattle.treasury_told.specs.FirstNotes.{first_notes, notes_first, BeginsWithNotes};
 
 use crate::explain::standing::{branch_named, records_of};
 use crate::explain::transfers::{part_of, transfer_of};
@@ -252,7 +252,7 @@ fn push_import<L: Ledger>(
 ) -> Result<(), Cause>
     ensures first { (list : List Located) → AreAllPrintable state.now.styles new.now
         → IsTaken state.now.styles held.now journal.now new.now list → OnOk result
-        (BeginsWith (first_notes state.now name.now source.now journal.now held.now new.now
+        (BeginsWithNotes (first_notes state.now name.now source.now journal.now held.now new.now
         (added_lines state.now.styles held.now list)) out.old.items out.new.items) }
 {
     let import = Import {
@@ -279,7 +279,7 @@ fn push_import_notes<L: Ledger>(
     ensures first { (list : List Located)
         → IsTaken state.now.styles (take before.entries (records_of state.now name.now)) journal.now
         (drop before.entries (records_of state.now name.now)) list → OnOk result
-        (BeginsWith (notes_first state.now name.now source.now journal.now before.entries list)
+        (BeginsWithNotes (notes_first state.now name.now source.now journal.now before.entries list)
         out.old.items out.new.items) }
 {
     state.is_good();
@@ -355,7 +355,7 @@ fn push_answered<L: Ledger>(
 ) -> Result<(), Cause>
     ensures first { (name journal : List ℕ) (list : List Located)
         → IsEntered state.now request.now name journal before.entries list → OnOk result
-        (BeginsWith (notes_first state.now name source.now journal before.entries list)
+        (BeginsWithNotes (notes_first state.now name source.now journal before.entries list)
         out.old.items out.new.items) }
 {
     if let Request::Import { branch, journal } = request {
@@ -380,7 +380,7 @@ fn push_notes<L: Ledger>(
     // Those of an import begin with those of another branch, of far days, and of odd amounts.
     ensures first { (held : HeldOfBranch) (name journal : List ℕ) (list : List Located) → before.branch ≡ Some held
         → IsEntered state.now request.now name journal held.entries list → OnOk result
-        (BeginsWith (notes_first state.now name source.now journal held.entries list)
+        (BeginsWithNotes (notes_first state.now name source.now journal held.entries list)
         out.old.items out.new.items) }
 {
     if let Request::Commodity { sample } = request {

@@ -14,7 +14,8 @@ ghost use Rattle.treasury_told.specs.declared.notes.again.DayLegs.{DayLegs as Ke
 ghost use Rattle.treasury_told.specs.Again.{is_marked, same_day_legs, may_be_same, again_with, again_on, again_of};
 ghost use Rattle.treasury_told.specs.Edited.{if_edited, again_note, again_text};
 ghost use Rattle.treasury_told.specs.Failure.{has_legs_of, legs_place};
-ghost use Rattle.treasury_told.specs.Index.{has_day, is_on, place_of, leg_writes, key_writes, key_equiv, key_alike};
+ghost use Rattle.treasury_told.specs.Index.{is_day_among, is_on, kept_place, leg_writes, key_writes, key_equiv};
+ghost use Rattle.treasury_told.specs.Index.{key_alike};
 ghost use Rattle.treasury_told.specs.Listed.{listed};
 
 use crate::explain::numbered::record_at;
@@ -107,7 +108,8 @@ pub fn is_marked(record: &Record) -> bool
 
 /// Puts a day among days.
 fn put_day(days: &mut HashMap<i32, ()>, day: i32) -> Result<(), Cause>
-    ensures value { OnOk result ((other : ℤ) → has_day days.new other ≡ (has_day days.old other || int_eq day other)) }
+    ensures value { OnOk result
+        ((other : ℤ) → is_day_among days.new other ≡ (is_day_among days.old other || int_eq day other)) }
     ensures memory { IsOkUnless result Cause.OutOfMemory }
 {
     let Ok(_old) = days.insert(day, ()) else {
@@ -118,7 +120,7 @@ fn put_day(days: &mut HashMap<i32, ()>, day: i32) -> Result<(), Cause>
 
 /// The days of the records.
 fn days_of(alloc: Global, records: &[Record]) -> Result<HashMap<i32, ()>, Cause>
-    ensures value { IfOk result (λ days. (day : ℤ) → has_day days day ≡ list_any (is_on day) records.now) }
+    ensures value { IfOk result (λ days. (day : ℤ) → is_day_among days day ≡ list_any (is_on day) records.now) }
     ensures memory { IsOkUnless result Cause.OutOfMemory }
 {
     let mut days = HashMap::new(alloc);
@@ -135,8 +137,8 @@ fn put_holder<'a>(
     row: &'a Record,
     place: usize,
 ) -> Result<(), Cause>
-    ensures value { OnOk result ((e : Posted) → has_day days.now e.day.0 ≡ true
-        → place_of holders.new e ≡ cond (has_legs_of e row.now) (Some place) (place_of holders.old e)) }
+    ensures value { OnOk result ((e : Posted) → is_day_among days.now e.day.0 ≡ true
+        → kept_place holders.new e ≡ cond (has_legs_of e row.now) (Some place) (kept_place holders.old e)) }
     ensures memory { IsOkUnless result Cause.OutOfMemory }
 {
     if !days.contains_key(&row.entry.day.0) {
@@ -154,8 +156,8 @@ fn holders_of<'a>(
     held: &'a [Record],
     days: &HashMap<i32, ()>,
 ) -> Result<HashMap<DayLegs<'a>, usize>, Cause>
-    ensures value { IfOk result (λ holders. (e : Posted) → has_day days.now e.day.0 ≡ true
-        → place_of holders e ≡ legs_place held.now e) }
+    ensures value { IfOk result (λ holders. (e : Posted) → is_day_among days.now e.day.0 ≡ true
+        → kept_place holders e ≡ legs_place held.now e) }
     ensures memory { IsOkUnless result Cause.OutOfMemory }
 {
     let mut holders = HashMap::new(alloc);
@@ -249,7 +251,7 @@ fn put_on(
 
 /// The place that is kept under the day and the legs of an entry.
 fn holder_of(holders: &HashMap<DayLegs<'_>, usize>, entry: &Entry) -> Option<usize>
-    ensures { result ≡ place_of holders.now entry.now }
+    ensures { result ≡ kept_place holders.now entry.now }
 {
     holders.get(&DayLegs { entry }).copied()
 }

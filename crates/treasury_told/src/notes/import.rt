@@ -8,7 +8,7 @@ ghost use Rattle.treasury_told.specs.Added.{added_lines, IsTaken};
 ghost use Rattle.treasury_told.specs.OddNotes.{odd_notes};
 ghost use Rattle.treasury_told.specs.FarDays.{far_in, far_if_any, far_notes};
 ghost use Rattle.treasury_told.specs.OtherBranch.{AreAllPrintable};
-ghost use Rattle.treasury_told.specs.FirstNotes.{first_notes, BeginsWith};
+ghost use Rattle.treasury_told.specs.FirstNotes.{first_notes, BeginsWithNotes};
 
 use crate::notes::BranchBefore;
 use crate::notes::accounts::{has_new_account, push_accounts};
@@ -143,7 +143,7 @@ fn push_at(
 ) -> Result<(), Cause>
     ensures { let it = import.now in let heads = places.now.lines.items in
         (noted.now.may_have_odd ≡ false → odd_amounts styles.now heads it.text.now ≡ []) → OnOk result
-        (BeginsWith (far_if_any it.source.now it.branch.now it.new.now heads noted.now.far
+        (BeginsWithNotes (far_if_any it.source.now it.branch.now it.new.now heads noted.now.far
         ++ odd_notes styles.now it.source.now it.text.now heads) out.old.items out.new.items) }
 {
     let lines: &[usize] = places.lines.as_slice();
@@ -166,7 +166,7 @@ fn push_noted(
     ensures { let it = import.now in (list : List Located) → IsTaken styles.now it.held.now it.text.now it.new.now list
         → ((heads : List ℕ) → noted.now.may_have_odd ≡ false → odd_amounts styles.now heads it.text.now ≡ [])
         → OnOk result (let lines = added_lines styles.now it.held.now list in
-        BeginsWith (far_if_any it.source.now it.branch.now it.new.now lines noted.now.far
+        BeginsWithNotes (far_if_any it.source.now it.branch.now it.new.now lines noted.now.far
         ++ odd_notes styles.now it.source.now it.text.now lines) out.old.items out.new.items) }
 {
     let asked = noted.candidates.as_slice();
@@ -212,7 +212,7 @@ fn push_if_noted<L: Ledger>(
 ) -> Result<(), Cause>
     ensures { let it = import.now in (list : List Located) → IsTaken styles.now it.held.now it.text.now it.new.now list
         → OnOk result (let lines = added_lines styles.now it.held.now list in
-        BeginsWith (far_notes it.source.now it.branch.now it.held.now it.new.now lines
+        BeginsWithNotes (far_notes it.source.now it.branch.now it.held.now it.new.now lines
         ++ odd_notes styles.now it.source.now it.text.now lines) out.old.items out.new.items) }
 {
     let noted = noted_of(alloc, styles, branch, import, before)?;
@@ -235,7 +235,7 @@ pub fn note_import<L: Ledger>(
     // the journal that are new.
     ensures first { let it = import.now in (list : List Located) → AreAllPrintable state.now.styles it.new.now
         → IsTaken state.now.styles it.held.now it.text.now it.new.now list → OnOk result
-        (BeginsWith (first_notes state.now it.branch.now it.source.now it.text.now it.held.now it.new.now
+        (BeginsWithNotes (first_notes state.now it.branch.now it.source.now it.text.now it.held.now it.new.now
         (added_lines state.now.styles it.held.now list)) out.old.items out.new.items) }
 {
     if import.new.is_empty() {

@@ -6,7 +6,7 @@ use Rattle.treasury_state.specs.declared.record.Record.{Record}
 use Rattle.treasury_state.specs.Federation.{records_of}
 use Rattle.treasury_told.specs.Added.{added_lines, IsTaken}
 use Rattle.treasury_told.specs.OtherBranch.{AreAllPrintable}
-use Rattle.treasury_told.specs.FirstNotes.{first_notes, BeginsWith}
+use Rattle.treasury_told.specs.FirstNotes.{first_notes, BeginsWithNotes}
 use Rattle.treasury_told.proofs.BranchLemmas.{no_records}
 use Rattle.treasury_told.proofs.ExplainLemmas.{records_printable}
 use Rattle.treasury_told.proofs.FirstNoteLemmas.{nothing_first, none_begin, all_drop}
@@ -21,12 +21,12 @@ returns-in-Some g c =
     let parts : (held new : List Record) → c.parted.result.0.now ≡ held → c.parted.result.1.now ≡ new
     → AreAllPrintable f.styles new → (list : List Located)
     → IsTaken f.styles held c.args.journal.now new list → OnOk c.push_import.result
-    (BeginsWith (first_notes f name c.args.source.now c.args.journal.now held new (added_lines f.styles held list))
+    (BeginsWithNotes (first_notes f name c.args.source.now c.args.journal.now held new (added_lines f.styles held list))
     c.args.out.now.items c.push_import.new.out.items)
     = λ held new e d printable list h.
-    subst (λ (rs : List Record). OnOk c.push_import.result (BeginsWith (first_notes f name c.args.source.now
+    subst (λ (rs : List Record). OnOk c.push_import.result (BeginsWithNotes (first_notes f name c.args.source.now
     c.args.journal.now rs new (added_lines f.styles rs list)) c.args.out.now.items c.push_import.new.out.items)) e
-    (subst (λ (rs : List Record). OnOk c.push_import.result (BeginsWith (first_notes f name c.args.source.now
+    (subst (λ (rs : List Record). OnOk c.push_import.result (BeginsWithNotes (first_notes f name c.args.source.now
     c.args.journal.now c.parted.result.0.now rs (added_lines f.styles c.parted.result.0.now list))
     c.args.out.now.items c.push_import.new.out.items)) d
     (c.push_import.ensures.first list

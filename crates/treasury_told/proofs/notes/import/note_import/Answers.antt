@@ -4,7 +4,7 @@ use Rattle.money_core.specs.declared.style.Style.{Style}
 use Rattle.treasury_told.specs.Added.{added_lines, IsTaken}
 use Rattle.treasury_told.specs.FarDays.{far_notes}
 use Rattle.treasury_told.specs.OddNotes.{odd_notes}
-use Rattle.treasury_told.specs.FirstNotes.{first_notes, BeginsWith}
+use Rattle.treasury_told.specs.FirstNotes.{first_notes, BeginsWithNotes}
 use Rattle.treasury_told.proofs.FirstNoteLemmas.{nothing_first, none_begin, other_begins}
 use Rattle.treasury_told.proofs.notes.import.note_import.Goals as goal
 
@@ -28,7 +28,7 @@ returns g c =
           (other_begins _ _ c.args.out.now.items now c.push_if_noted.new.out.items
           (c.in_ok-push_other_branch.ensures.value printable))
           (subst (λ (styles : List Style). IsTaken styles it.held.now it.text.now it.new.now list
-          → OnOk c.push_if_noted.result (BeginsWith (far_notes it.source.now it.branch.now it.held.now it.new.now
+          → OnOk c.push_if_noted.result (BeginsWithNotes (far_notes it.source.now it.branch.now it.held.now it.new.now
           (added_lines styles it.held.now list) ++ odd_notes styles it.source.now it.text.now
           (added_lines styles it.held.now list)) now c.push_if_noted.new.out.items)) c.styles.ensures
           (c.push_if_noted.ensures list) h);

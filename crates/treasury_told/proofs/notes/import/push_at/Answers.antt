@@ -3,7 +3,7 @@ use Rattle.std.specs.Prelude.{OnOk}
 use Rattle.treasury_told.specs.OddAmount.{odd_amounts}
 use Rattle.treasury_told.specs.OddNotes.{odd_notes}
 use Rattle.treasury_told.specs.FarDays.{far_if_any}
-use Rattle.treasury_told.specs.FirstNotes.{BeginsWith}
+use Rattle.treasury_told.specs.FirstNotes.{BeginsWithNotes}
 use Rattle.treasury_told.proofs.FirstNoteLemmas.{begin_with_two}
 use Rattle.treasury_told.proofs.notes.import.push_at.Goals as goal
 
@@ -16,7 +16,7 @@ returns c = λ none.
     let old = c.args.out.now.items in
     let new = c.extend_from_slice.new.self.items in
     let told = c.push_further-told.result in
-    subst (λ (ns : List ℕ). OnOk told (BeginsWith (far_if_any it.source.now it.branch.now it.new.now ns
+    subst (λ (ns : List ℕ). OnOk told (BeginsWithNotes (far_if_any it.source.now it.branch.now it.new.now ns
     c.args.noted.now.far ++ odd_notes styles it.source.now it.text.now ns) old new)) same
     (begin_with_two told (far_if_any it.source.now it.branch.now it.new.now lines c.args.noted.now.far)
     (odd_notes styles it.source.now it.text.now lines) c.as_slice.result.now old c.push_far_days.new.out.items

@@ -3,7 +3,7 @@ use Rattle.std.specs.Prelude.{IfOk}
 use Rattle.journal_format.specs.Printable.{IsPrintable}
 use Rattle.treasury_state.specs.declared.record.Record.{Record}
 use Rattle.treasury_state.specs.Mark.{has_mark, held}
-use Rattle.treasury_told.specs.OtherBranch.{is_same}
+use Rattle.treasury_told.specs.OtherBranch.{has_text_of_held}
 use Rattle.treasury_told.proofs.OtherBranchLemmas.{all_find}
 use Rattle.treasury_told.proofs.notes.other_branch.is_held_so.Goals as goal
 
@@ -14,6 +14,6 @@ returns-in-Some-clause-value c = λ all printable.
     let r = c.args.record.now in
     let found : Some c.in-Some.other.now ≡ held records r.mark =
     c.in-Some.ensures ∙ ap (λ (m : List ℕ). held records m) c.as_str.ensures in
-    subst (λ (o : Option Record). IfOk c.has_text_of.result (λ is. is ≡ is_same styles r o)) found
+    subst (λ (o : Option Record). IfOk c.has_text_of.result (λ is. is ≡ has_text_of_held styles r o)) found
     (c.has_text_of.ensures.value printable
     (all_find (λ (x : Record). IsPrintable styles x.txn) (has_mark r.mark) records c.in-Some.other.now all (sym found)))
