@@ -36,7 +36,7 @@ use Rattle.journal_format.specs.Pieces.{HaveList}
 use Rattle.journal_format.specs.Pieces.ArePieces.{nothing, led, alone, remark}
 use Rattle.journal_format.specs.Pieces.IsLed.{skipped}
 use Rattle.journal_format.specs.Pieces.IsAlone.{blank, comment}
-use Rattle.journal_format.specs.Pieces.MakeUp.{whole}
+use Rattle.journal_format.specs.Pieces.MakeUpList.{whole}
 use Rattle.journal_format.specs.Fault.{IsFirstFault}
 use Rattle.journal_format.proofs.PostingFormLemmas.{form_reads}
 use Rattle.journal_format.proofs.DirectiveFormLemmas.{below_iff}

@@ -19,7 +19,7 @@ use Rattle.journal_format.specs.Pieces.ArePostings.{none as no_posting, more as 
 use Rattle.journal_format.specs.Pieces.IsLed.{entry, directive, skipped}
 use Rattle.journal_format.specs.Pieces.IsAlone.{blank, comment, block}
 use Rattle.journal_format.specs.Pieces.ArePieces.{nothing as nothing_yet, led, alone, remark}
-use Rattle.journal_format.specs.Pieces.MakeUp.{whole, unclosed}
+use Rattle.journal_format.specs.Pieces.MakeUpList.{whole, unclosed}
 use Rattle.treasury_told.specs.Heads.{is_head, is_block, heads_from, heads_in}
 
 abbrev pub Numbered : Type 0
