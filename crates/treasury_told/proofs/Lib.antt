@@ -10,6 +10,8 @@ pub mod OddValues
 pub mod PieceLemmas
 pub mod TransferLemmas
 pub mod LeftOverLemmas
+pub mod ExactLemmas
+pub mod ExactValues
 pub mod FailureLemmas
 pub mod RefusedLemmas
 pub mod PassingLemmas

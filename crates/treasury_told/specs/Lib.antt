@@ -9,6 +9,7 @@ pub mod Failure
 pub mod HeldTransfer
 pub mod Lock
 pub mod LeftOver
+pub mod ExactProduct
 pub mod AtFault
 pub mod Refused
 pub mod Passing

@@ -174,7 +174,7 @@ fn push_product(
     out: &mut Vec<u8>,
 ) -> Result<(), Cause> {
     match transaction_at(alloc, styles, journal, line) {
-        Ok(Some(txn)) => push_exact(alloc, styles, &txn, out),
+        Ok(Some(txn)) => push_exact(alloc, styles, txn.postings.items(), out),
         Ok(None) => Ok(()),
         Err(cause) => Err(cause),
     }
