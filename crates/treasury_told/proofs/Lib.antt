@@ -3,6 +3,8 @@ pub mod AccountLemmas
 pub mod NumberedLemmas
 pub mod AtFaultLemmas
 pub mod LineLemmas
+pub mod BelowLemmas
+pub mod BroughtLemmas
 pub mod OddLemmas
 pub mod HeadLemmas
 pub mod BranchLemmas

@@ -24,6 +24,7 @@ pub mod Near
 pub mod Index
 pub mod Edited
 pub mod NewAccount
+pub mod BroughtAccounts
 pub mod FarDays
 pub mod OtherBranch
 pub mod FirstNotes

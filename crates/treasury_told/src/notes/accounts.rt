@@ -1,22 +1,29 @@
 //! Accounts that a branch had in no entry before, or does not have: a name may be mistyped.
 
 ghost use Rattle.std.specs.Prelude.{◌≡◌, ◌++◌, ◌&&◌, ◌||◌, ◌↔◌, true, not, ℕ, List, IfOk, OnOk, IsTrue, is_some};
+ghost use Rattle.std.specs.Prelude.{map, length, codes};
 ghost use Rattle.std.specs.HashMap.{get_by_text};
-ghost use Rattle.std.specs.List.{list_any};
+ghost use Rattle.std.specs.List.{list_any, filter};
 ghost use Rattle.std.specs.Result.{IsOkUnless};
 ghost use Rattle.std.specs.Str.{bytes_eq};
+ghost use Rattle.journal_format.specs.PostingParts.{account_name_of};
 ghost use Rattle.treasury_told.specs.Listed.{listed};
 ghost use Rattle.treasury_told.specs.NewAccount.{posts_to, has_leg_on, is_new_account, has_imported};
-ghost use Rattle.treasury_told.specs.NewAccount.{between, unknown_account_text};
+ghost use Rattle.treasury_told.specs.NewAccount.{unused_account_text, between, unknown_account_text};
+ghost use Rattle.treasury_told.specs.BroughtAccounts.{posted_view, posted_on, posted_at, new_ones, first_account_text};
+ghost use Rattle.treasury_told.specs.BroughtAccounts.{further_account_text, further_account_texts, left_out_text};
+ghost use Rattle.treasury_told.specs.BroughtAccounts.{fitting_text, note_of_accounts, accounts_note};
+ghost use Rattle.treasury_told.specs.OddAmount.{is_posting_line};
 
 use crate::explain::at_fault::is_own_mark;
 use crate::explain::lines::{is_posting, posting_parts};
 use crate::explain::push_origin;
 use crate::explain::shown::{push_number, push_shown};
+use crate::notes::amounts::{behind_next, is_below, is_next};
 use crate::notes::listed::push_more;
 use crate::notes::{Import, MOST};
 use book_core::is_inside;
-use journal_lines::{LineKind, Lines, kind};
+use journal_lines::Lines;
 use money_core::Cause;
 use std::alloc::Global;
 use std::collections::HashMap;
@@ -153,7 +160,10 @@ pub fn has_new_account(alloc: Global, held: &[Record], new: &[Record]) -> Result
 }
 
 /// Appends that an account is new to a branch.
-fn push_unused(account: &[u8], branch: &str, out: &mut Vec<u8>) -> Result<(), Cause> {
+fn push_unused(account: &[u8], branch: &str, out: &mut Vec<u8>) -> Result<(), Cause>
+    ensures value { OnOk result (out.new.items ≡ out.old.items ++ unused_account_text account.now branch.now) }
+    ensures memory { IsOkUnless result Cause.OutOfMemory }
+{
     push_shown(account, out)?;
     out.extend_from_slice(b" is an account that no earlier entry of ")?;
     push_shown(branch.as_bytes(), out)?;
@@ -161,101 +171,179 @@ fn push_unused(account: &[u8], branch: &str, out: &mut Vec<u8>) -> Result<(), Ca
     Ok(())
 }
 
-/// A line that names new accounts, as far as it is made.
-#[derive(Drop)]
-struct AccountLine {
-    text: Vec<u8>,
-    /// How many accounts it names, and how many it leaves out.
-    named: usize,
-    left_out: usize,
+/// The account of a posting of a text, and the number of its line.
+#[derive(Clone, Copy)]
+struct PostedAt<'a> {
+    line: usize,
+    name: &'a [u8],
 }
 
-impl AccountLine {
-    /// Adds an account that stands at that line of the text.
-    fn add(&mut self, import: &Import<'_>, number: usize, account: &[u8]) -> Result<(), Cause> {
-        if self.named == 0 {
-            self.named = 1;
-            self.text.extend_from_slice(b"note: ")?;
-            push_origin(import.source, number, &mut self.text)?;
-            return push_unused(account, import.branch, &mut self.text);
-        }
-        let mut piece = Vec::new(*self.text.allocator());
-        piece.extend_from_slice(if self.named == 1 { b"; also " } else { b", " })?;
-        push_shown(account, &mut piece)?;
-        piece.extend_from_slice(b" (line ")?;
-        push_number(number, &mut piece)?;
-        piece.extend_from_slice(b")")?;
-        if self.left_out > 0 || self.text.len().saturating_add(piece.len()) > MAX_LINE {
-            self.left_out = self.left_out.saturating_add(1);
-            return Ok(());
-        }
-        self.named = self.named.saturating_add(1);
-        self.text.extend_from_slice(piece.as_slice())?;
-        Ok(())
-    }
-
-    /// Appends the line, if it names an account.
-    fn push_to(&self, out: &mut Vec<u8>) -> Result<(), Cause> {
-        if self.named == 0 {
-            return Ok(());
-        }
-        out.extend_from_slice(self.text.as_slice())?;
-        if self.left_out > 0 {
-            out.extend_from_slice(b" and ")?;
-            push_number(self.left_out, out)?;
-            out.extend_from_slice(b" more")?;
-        }
-        out.extend_from_slice(b"\n")?;
-        Ok(())
-    }
-}
-
-/// Adds the account of a posting's line, if it is still to be named.
-fn add_posting(
-    import: &Import<'_>,
-    number: usize,
-    line: &[u8],
-    accounts: &mut HashMap<String, ()>,
-    list: &mut AccountLine,
-) -> Result<(), Cause> {
-    let name = posting_parts(line).name;
+/// Takes an account out of accounts; whether it was there.
+fn take_account(accounts: &mut HashMap<String, ()>, name: &[u8]) -> bool
+    ensures was { result ≡ is_some (get_by_text accounts.old name.now) }
+    ensures left { (other : List ℕ) → is_some (get_by_text accounts.new other)
+        ≡ (is_some (get_by_text accounts.old other) && not (bytes_eq name.now other)) }
+{
     match str::from_utf8(name) {
-        Ok(account) if accounts.remove(account).is_some() => list.add(import, number, name),
-        _ => Ok(()),
+        Ok(account) => accounts.remove(account).is_some(),
+        Err(_) => false,
+    }
+}
+
+/// Puts the account of a line, if it is a posting and the account is one of these, which it is taken out of.
+fn put_posted_at<'a>(
+    number: usize,
+    line: &'a [u8],
+    accounts: &mut HashMap<String, ()>,
+    found: &mut Vec<PostedAt<'a>>,
+) -> Result<(), Cause>
+    ensures left { (other : List ℕ) → is_some (get_by_text accounts.new other)
+        ≡ (is_some (get_by_text accounts.old other)
+        && not (is_posting_line line.now && bytes_eq (account_name_of line.now) other)) }
+    ensures value { OnOk result (map posted_view found.new.items ≡ map posted_view found.old.items
+        ++ filter (λ (x : ℕ × List ℕ). is_some (get_by_text accounts.old x.1)) (posted_on (number, line.now))) }
+    ensures memory { IsOkUnless result Cause.OutOfMemory }
+{
+    if !is_posting(line) {
+        return Ok(());
+    }
+    let name = posting_parts(line).name;
+    if take_account(accounts, name) {
+        found.push(PostedAt { line: number, name })?;
+    }
+    Ok(())
+}
+
+/// Those of these accounts that new transactions have, whose headers stand at these lines, each at its first line.
+#[tactic(auto, unfolding(crate::specs::BroughtAccounts::posted_at))]
+fn find_posted<'a>(
+    alloc: Global,
+    text: &'a [u8],
+    lines: &[usize],
+    accounts: &mut HashMap<String, ()>,
+) -> Result<Vec<PostedAt<'a>>, Cause>
+    ensures value { IfOk result (λ found. map posted_view found.items
+        ≡ new_ones (λ account. is_some (get_by_text accounts.old account)) (posted_at lines.now text.now)) }
+    ensures memory { IsOkUnless result Cause.OutOfMemory }
+{
+    let mut found = Vec::new(alloc);
+    let mut left = lines;
+    let mut inside = false;
+    for (number, line) in Lines::new(text) {
+        if accounts.is_empty() {
+            return Ok(found);
+        }
+        if is_next(left, number) {
+            left = behind_next(left);
+            inside = true;
+        } else {
+            inside = is_below(inside, line);
+            if inside {
+                put_posted_at(number, line, accounts, &mut found)?;
+            }
+        }
+    }
+    Ok(found)
+}
+
+/// Appends an account that is not the first, behind what joins it to the line.
+fn push_further(before: &[u8], posted: &PostedAt<'_>, out: &mut Vec<u8>) -> Result<(), Cause>
+    ensures value { OnOk result (out.new.items
+        ≡ out.old.items ++ further_account_text before.now (posted_view posted.now)) }
+    ensures memory { IsOkUnless result Cause.OutOfMemory }
+{
+    out.extend_from_slice(before)?;
+    push_shown(posted.name, out)?;
+    out.extend_from_slice(b" (line ")?;
+    push_number(posted.line, out)?;
+    out.extend_from_slice(b")")?;
+    Ok(())
+}
+
+/// Appends how many accounts are left, if some are.
+fn push_left_out(left: &[PostedAt<'_>], out: &mut Vec<u8>) -> Result<(), Cause>
+    ensures value { OnOk result (out.new.items ≡ out.old.items ++ left_out_text (length left.now)) }
+    ensures memory { IsOkUnless result Cause.OutOfMemory }
+{
+    let count = left.len();
+    if count > 0 {
+        out.extend_from_slice(b" and ")?;
+        push_number(count, out)?;
+        out.extend_from_slice(b" more")?;
+    }
+    Ok(())
+}
+
+/// Appends those of the accounts for which a line has room, and how many more there are.
+#[tactic(auto, unfolding(crate::specs::BroughtAccounts::fitting_text))]
+fn push_fitting(alloc: Global, further: &[PostedAt<'_>], line: &mut Vec<u8>) -> Result<(), Cause>
+    ensures value { OnOk result (line.new.items ≡ line.old.items ++ fitting_text (length line.old.items)
+        (further_account_texts (codes "; also ") (map posted_view further.now))) }
+    ensures memory { IsOkUnless result Cause.OutOfMemory }
+{
+    let mut before: &[u8] = b"; also ";
+    for (place, posted) in further.iter().enumerate() {
+        let mut piece = Vec::new(alloc);
+        push_further(before, posted, &mut piece)?;
+        if line.len().saturating_add(piece.len()) > MAX_LINE {
+            return push_left_out(&further[place..], line);
+        }
+        line.extend_from_slice(piece.as_slice())?;
+        before = b", ";
+    }
+    Ok(())
+}
+
+/// Appends the first of the new accounts.
+fn push_first(import: &Import<'_>, posted: &PostedAt<'_>, out: &mut Vec<u8>) -> Result<(), Cause>
+    ensures value { OnOk result (out.new.items ≡ out.old.items
+        ++ first_account_text import.now.source.now import.now.branch.now (posted_view posted.now)) }
+    ensures memory { IsOkUnless result Cause.OutOfMemory }
+{
+    out.extend_from_slice(b"note: ")?;
+    push_origin(import.source, posted.line, out)?;
+    push_unused(posted.name, import.branch, out)
+}
+
+/// Appends the note of these accounts, if there are any.
+fn push_found(
+    alloc: Global,
+    import: &Import<'_>,
+    found: &[PostedAt<'_>],
+    out: &mut Vec<u8>,
+) -> Result<(), Cause>
+    ensures value { OnOk result (out.new.items ≡ out.old.items
+        ++ note_of_accounts import.now.source.now import.now.branch.now (map posted_view found.now)) }
+    ensures memory { IsOkUnless result Cause.OutOfMemory }
+{
+    match found {
+        [first, further @ ..] => {
+            let mut line = Vec::new(alloc);
+            push_first(import, first, &mut line)?;
+            push_fitting(alloc, further, &mut line)?;
+            line.extend_from_slice(b"\n")?;
+            out.extend_from_slice(line.as_slice())?;
+            Ok(())
+        }
+        [] => Ok(()),
     }
 }
 
 /// Appends the note of the accounts that an import's new transactions bring; their headers stand at these lines.
+#[tactic(auto, unfolding(crate::specs::BroughtAccounts::accounts_note))]
 pub fn push_accounts(
     alloc: Global,
     import: &Import<'_>,
     lines: &[usize],
     out: &mut Vec<u8>,
-) -> Result<(), Cause> {
+) -> Result<(), Cause>
+    ensures value { let it = import.now in OnOk result (out.new.items ≡ out.old.items
+        ++ accounts_note it.source.now it.branch.now it.text.now lines.now (is_new_account it.held.now it.new.now)) }
+    ensures memory { IsOkUnless result Cause.OutOfMemory }
+{
     let mut accounts = new_accounts(alloc, import.held, import.new)?;
-    let mut list = AccountLine {
-        text: Vec::new(alloc),
-        named: 0,
-        left_out: 0,
-    };
-    let mut next = 0usize;
-    let mut is_new = false;
-    for (number, line) in Lines::new(import.text) {
-        if lines.get(next) == Some(&number) {
-            next = next.saturating_add(1);
-            is_new = true;
-        } else {
-            // An entry ends at the first line that is not indented.
-            is_new = is_new && kind(line) == LineKind::Indented;
-            if is_new && is_posting(line) {
-                add_posting(import, number, line, &mut accounts, &mut list)?;
-            }
-        }
-        if accounts.is_empty() {
-            break;
-        }
-    }
-    list.push_to(out)
+    let found = find_posted(alloc, import.text, lines, &mut accounts)?;
+    push_found(alloc, import, found.as_slice(), out)
 }
 
 /// Whether one of the records has a leg on the account.

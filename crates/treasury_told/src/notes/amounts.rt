@@ -110,7 +110,7 @@ fn put_line<'a>(
 }
 
 /// Whether the next header stands on that line.
-fn is_next(heads: &[usize], number: usize) -> bool
+pub(crate) fn is_next(heads: &[usize], number: usize) -> bool
     ensures { result ≡ is_next heads.now number }
 {
     match heads {
@@ -120,7 +120,7 @@ fn is_next(heads: &[usize], number: usize) -> bool
 }
 
 /// The headers after the next one.
-fn behind_next(heads: &[usize]) -> &[usize]
+pub(crate) fn behind_next(heads: &[usize]) -> &[usize]
     ensures { result.now ≡ drop 1 heads.now }
 {
     match heads {
@@ -130,7 +130,7 @@ fn behind_next(heads: &[usize]) -> &[usize]
 }
 
 /// Whether a line is in the transaction that the line before it is in, if that is in one.
-fn is_below(inside: bool, line: &[u8]) -> bool
+pub(crate) fn is_below(inside: bool, line: &[u8]) -> bool
     ensures { result ≡ (inside && is_inner (kind_of line.now)) }
 {
     inside && is_inner(line)
