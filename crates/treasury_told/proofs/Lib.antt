@@ -5,6 +5,7 @@ pub mod AtFaultLemmas
 pub mod LineLemmas
 pub mod BelowLemmas
 pub mod BroughtLemmas
+pub mod DatedLemmas
 pub mod OddLemmas
 pub mod HeadLemmas
 pub mod BranchLemmas

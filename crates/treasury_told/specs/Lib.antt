@@ -25,6 +25,7 @@ pub mod Index
 pub mod Edited
 pub mod NewAccount
 pub mod BroughtAccounts
+pub mod Dated
 pub mod FarDays
 pub mod OtherBranch
 pub mod FirstNotes
