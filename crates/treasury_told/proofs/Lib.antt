@@ -19,6 +19,7 @@ pub mod FailureLemmas
 pub mod RefusedLemmas
 pub mod PassingLemmas
 pub mod AddedLemmas
+pub mod MissingLemmas
 pub mod AgainLemmas
 pub mod OddNoteLemmas
 pub mod OtherBranchLemmas

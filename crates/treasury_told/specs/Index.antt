@@ -1,5 +1,5 @@
 -- Mirrors code: how entries are looked up by their days and legs.
-use Rattle.std.specs.Prelude.{ℕ, ℤ, Bool, is_some, List, ◌++◌, Option}
+use Rattle.std.specs.Prelude.{ℕ, ℤ, nat_eq, Bool, is_some, List, ◌++◌, Option}
 use Rattle.std.specs.Hash as fed
 use Rattle.std.specs.HashMap.{HashMap, get, get_by}
 use Rattle.std.specs.Cmp.{IsEquivalence, on_equiv, and_equiv, int_eq_equiv, nat_eq_equiv, signed_Decides}
@@ -22,6 +22,10 @@ is_on day r = int_eq r.entry.day.0 day
 -- the day is among days
 abbrev pub is_day_among : HashMap ℤ (Unit {0}) (BuildHasherDefault FoldHasher) → ℤ → Bool
 is_day_among days day = is_some (get int_eq days day)
+
+-- the place is among places
+abbrev pub is_place_among : HashMap ℕ (Unit {0}) (BuildHasherDefault FoldHasher) → ℕ → Bool
+is_place_among places place = is_some (get nat_eq places place)
 
 -- what is kept under the day and the legs of an entry
 abbrev pub kept_place : HashMap DayLegs ℕ (BuildHasherDefault FoldHasher) → Entry → Option ℕ

@@ -27,6 +27,7 @@ pub mod NewAccount
 pub mod BroughtAccounts
 pub mod Dated
 pub mod FarDays
+pub mod Missing
 pub mod OtherBranch
 pub mod FirstNotes
 pub mod RequestFaults

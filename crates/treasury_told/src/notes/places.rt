@@ -5,12 +5,19 @@
 //! Transactions of the same text have the same header, so that they are read together, and numbered as in the file.
 //! Of a text that may have an odd amount, or brings a far day, which is rare, all are read.
 
-ghost use Rattle.std.specs.Prelude.{◌≡◌, true, List, length, map, IfOk};
+ghost use Rattle.std.specs.Prelude.{◌≡◌, ◌⊎◌, ◌||◌, ℕ, true, List, length, map, fold, None, IfOk, OnOk};
+ghost use Rattle.std.specs.List.{list_any};
 ghost use Rattle.std.specs.Result.{IsOkUnless};
+ghost use Rattle.money_core.specs.declared.day.Day.{Day as When};
 ghost use Rattle.journal_format.specs.declared.txn.Located.{Located};
 ghost use Rattle.treasury_told.specs.declared.explain.standing.Standing.{Standing as Read};
 ghost use Rattle.treasury_told.specs.declared.notes.heads.HeaderLine.{HeaderLine as HeadLine};
+ghost use Rattle.treasury_state.specs.Mark.{HaveOwnMarks};
+ghost use Rattle.treasury_core.specs.Step.{records_in_file};
 ghost use Rattle.treasury_told.specs.Added.{added_lines, IsTaken};
+ghost use Rattle.treasury_told.specs.FarDays.{with_day, span_of};
+ghost use Rattle.treasury_told.specs.Index.{is_place_among};
+ghost use Rattle.treasury_told.specs.Missing.{in_span_of, is_passed_over, is_by_record, repeats, TellsOf};
 ghost use Rattle.treasury_told.specs.Numbered.{new_of};
 
 use crate::explain::standing::{Holder, Standing, standings};
@@ -37,7 +44,9 @@ pub struct NewPlaces {
 impl NewPlaces {
     /// Whether the text passes over the held record at that place, which was asked for: its day is between the first
     /// and the last day of the text, and the text does not have it.
-    pub fn is_missing(&self, place: usize, day: Day) -> bool {
+    pub fn is_missing(&self, place: usize, day: Day) -> bool
+        ensures { result ≡ is_passed_over self.now place day }
+    {
         match self.span {
             Some(span) => span.holds(day) && self.repeated.get(&place).is_none(),
             None => false,
@@ -290,7 +299,10 @@ fn places_of_all(
     import: &Import<'_>,
     lines: &[HeaderLine<'_>],
 ) -> Result<NewPlaces, Cause>
-    ensures { IfOk result (λ places. places.lines.items ≡ map (λ (h : HeadLine). h.number) lines.now) }
+    ensures lines { IfOk result (λ places. places.lines.items ≡ map (λ (h : HeadLine). h.number) lines.now) }
+    // None of them is a held one.
+    ensures missing { IfOk result (λ places. (place : ℕ) (day : When)
+        → is_passed_over places place day ≡ in_span_of (span_of import.now.new.now) day) }
 {
     let numbers = numbers_of(alloc, lines)?;
     Ok(NewPlaces {
@@ -334,19 +346,38 @@ fn new_lines(alloc: Global, read: &[Standing]) -> Result<Vec<usize>, Cause>
     Ok(lines)
 }
 
+/// Puts the place of the record that holds a transaction among places, if one does.
+fn put_repeated(repeated: &mut HashMap<usize, ()>, holder: Holder) -> Result<(), Cause>
+    ensures value { OnOk result ((place : ℕ)
+        → is_place_among repeated.new place ≡ (is_place_among repeated.old place || is_by_record place holder)) }
+    ensures memory { IsOkUnless result Cause.OutOfMemory }
+{
+    let Holder::Record(place) = holder else {
+        return Ok(());
+    };
+    let Ok(_old) = repeated.insert(place, ()) else {
+        return Err(Cause::OutOfMemory);
+    };
+    Ok(())
+}
+
 /// The places of the held records that the transactions of a text repeat.
-fn repeated_in(alloc: Global, read: &[Standing]) -> Result<HashMap<usize, ()>, Cause> {
+fn repeated_in(alloc: Global, read: &[Standing]) -> Result<HashMap<usize, ()>, Cause>
+    ensures value { IfOk result (λ repeated. (place : ℕ)
+        → is_place_among repeated place ≡ list_any (repeats place) read.now) }
+    ensures memory { IsOkUnless result Cause.OutOfMemory }
+{
     let mut repeated = HashMap::new(alloc);
     for standing in read {
-        if let Holder::Record(place) = standing.holder {
-            let _ = repeated.insert(place, ())?;
-        }
+        put_repeated(&mut repeated, standing.holder)?;
     }
     Ok(repeated)
 }
 
 /// The first and the last day of the transactions of a text.
-fn span_in(read: &[Standing]) -> Option<Span> {
+fn span_in(read: &[Standing]) -> Option<Span>
+    ensures { result ≡ fold with_day None (map (λ (s : Read). s.txn.day) read.now) }
+{
     let mut span: Option<Span> = None;
     for standing in read {
         span = Span::with_day(span, standing.txn.day);
@@ -356,9 +387,13 @@ fn span_in(read: &[Standing]) -> Option<Span> {
 
 /// Where the new transactions stand, and which held records the text repeats, as the whole text tells.
 fn places_read(alloc: Global, styles: &Styles, import: &Import<'_>) -> Result<NewPlaces, Cause>
-    ensures { (list : List Located)
+    ensures lines { (list : List Located)
         → IsTaken styles.now import.now.held.now import.now.text.now import.now.new.now list
         → IfOk result (λ places. places.lines.items ≡ added_lines styles.now import.now.held.now list) }
+    ensures missing { (list : List Located)
+        → IsTaken styles.now import.now.held.now import.now.text.now import.now.new.now list
+        → HaveOwnMarks import.now.held.now → IfOk result (λ places. (place : ℕ)
+        → TellsOf import.now.held.now (records_in_file styles.now list) places place) }
 {
     let list = standings(alloc, styles, import.held, import.text)?;
     let read = list.as_slice();
@@ -397,6 +432,12 @@ pub fn new_places(
         → IsTaken styles.now import.now.held.now import.now.text.now import.now.new.now list
         → length list ≡ length import.now.new.now
         → IfOk result (λ places. places.lines.items ≡ added_lines styles.now import.now.held.now list) }
+    // In both cases the text is told to pass over exactly those held records that it does pass over.
+    ensures missing { (list : List Located)
+        → IsTaken styles.now import.now.held.now import.now.text.now import.now.new.now list
+        → HaveOwnMarks import.now.held.now → (is_whole ≡ true) ⊎ (length list ≡ length import.now.new.now)
+        → IfOk result (λ places. (place : ℕ)
+        → TellsOf import.now.held.now (records_in_file styles.now list) places place) }
 {
     let found = header_lines(alloc, import.text)?;
     let lines = found.as_slice();
