@@ -24,4 +24,5 @@ pub mod AgainLemmas
 pub mod OddNoteLemmas
 pub mod OtherBranchLemmas
 pub mod FirstNoteLemmas
+pub mod OpenYearLemmas
 pub mod ExplainLemmas

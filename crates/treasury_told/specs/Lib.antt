@@ -28,6 +28,7 @@ pub mod BroughtAccounts
 pub mod Dated
 pub mod FarDays
 pub mod Missing
+pub mod OpenYear
 pub mod OtherBranch
 pub mod FirstNotes
 pub mod RequestFaults

@@ -115,7 +115,7 @@ fn note_lock<L: Ledger>(
         b"; the branch is now locked through "
     };
     push_early_lock(alloc, name, branch.records.items(), day, done, out)?;
-    push_open_year(alloc, state.styles(), branch, day, out)
+    push_open_year(alloc, state.styles(), &branch.ledger, name, day, out)
 }
 
 /// Appends the notes of a closing that a branch with these records got: of the accounts that are listed, of its day,

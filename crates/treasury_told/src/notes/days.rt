@@ -1,13 +1,19 @@
 //! Days that may be a slip: far from the entries that a branch had, or from a dispatch, and what a lock or a closing
 //! keeps as it is.
 
-ghost use Rattle.std.specs.Prelude.{◌≡◌, ◌++◌, OnOk};
+ghost use Rattle.std.specs.Prelude.{◌≡◌, ◌++◌, true, IfOk, OnOk};
 ghost use Rattle.std.specs.List.{count_by, position_from};
 ghost use Rattle.std.specs.Result.{IsOkUnless};
+ghost use Rattle.std.specs.Str.{bytes_eq, str_to_ascii_lowercase};
+ghost use Rattle.journal_lines.specs.Date.{is_in_calendar};
+ghost use Rattle.journal_balance.specs.Legs.{declared_commodities};
+ghost use Rattle.treasury_core.specs.Choice.{first_part, is_revenue_or_expense};
 ghost use Rattle.treasury_told.specs.FarDays.{with_day, span_of, holds, is_after_by, is_far, is_far_record, far_at};
 ghost use Rattle.treasury_told.specs.FarDays.{far_in, far_words, far_end, is_after, far_day};
 ghost use Rattle.treasury_told.specs.FarDays.{more_far, far_note, far_text, far_transfer, dated, late_note};
 ghost use Rattle.treasury_told.specs.FarDays.{late_receipt, last_note, early_lock, early_closing};
+ghost use Rattle.treasury_told.specs.OpenYear.{is_end_of_year, day_after, has_balance, is_left_open, is_year_open};
+ghost use Rattle.treasury_told.specs.OpenYear.{open_year_text, open_year_note};
 
 use crate::explain::pieces::push_day;
 use crate::explain::push_origin;
@@ -15,9 +21,9 @@ use crate::explain::shown::{push_number, push_shown};
 use crate::notes::Import;
 use crate::notes::accounts::push_between;
 use book_core::Ledger;
-use money_core::{Cause, Day, Styles, Unit};
+use money_core::{Cause, Day, Styles, Text, Unit};
 use std::alloc::Global;
-use treasury_core::{Branch, Record, Transfer};
+use treasury_core::{Record, Transfer};
 
 /// How many days after the last entry a branch may be closed before it is noted.
 const MOST_TO_CLOSING: i32 = 183;
@@ -379,29 +385,58 @@ pub fn push_early_closing(
 }
 
 /// Whether the day is a 31 December.
-fn is_end_of_year(alloc: Global, day: Day) -> Result<bool, Cause> {
+fn is_end_of_year(alloc: Global, day: Day) -> Result<bool, Cause>
+    ensures value { IfOk result (λ is. is ≡ is_end_of_year day) }
+    ensures memory { IsOkUnless result Cause.OutOfMemory }
+{
     let mut text = Vec::new(alloc);
     push_day(alloc, day, &mut text)?;
     Ok(text.as_slice().ends_with(b"-12-31"))
 }
 
-/// Whether the account is one of revenues or expenses, by its first part.
-fn is_revenue_or_expense(account: &str) -> bool {
-    let part = match account.split_once(':') {
+/// The next day.
+fn day_after(day: Day) -> Day
+    requires { is_in_calendar day ≡ true }
+    ensures { result ≡ day_after day }
+{
+    Day(day.0 + 1)
+}
+
+/// The part of an account's name before its first colon.
+fn first_part(account: &str) -> &str
+    ensures { result.now ≡ first_part account.now }
+{
+    match account.split_once(':') {
         Some((first, _)) => first,
         None => account,
-    };
-    part.eq_ignore_ascii_case("income")
-        || part.eq_ignore_ascii_case("incomes")
-        || part.eq_ignore_ascii_case("revenue")
-        || part.eq_ignore_ascii_case("revenues")
-        || part.eq_ignore_ascii_case("expense")
-        || part.eq_ignore_ascii_case("expenses")
+    }
+}
+
+/// Whether the part is that name, in small or capital ASCII letters.
+fn is_named(part: &str, name: &str) -> bool
+    ensures { result ≡ bytes_eq (str_to_ascii_lowercase part.now) (str_to_ascii_lowercase name.now) }
+{
+    part.eq_ignore_ascii_case(name)
+}
+
+/// Whether the account is one of revenues or expenses, by its first part.
+fn is_revenue_or_expense(account: &str) -> bool
+    ensures { result ≡ is_revenue_or_expense account.now }
+{
+    let part = first_part(account);
+    is_named(part, "income")
+        || is_named(part, "incomes")
+        || is_named(part, "revenue")
+        || is_named(part, "revenues")
+        || is_named(part, "expense")
+        || is_named(part, "expenses")
 }
 
 /// Whether the account has a balance through the day that is not zero, in one of the commodities.
-fn has_balance<L: Ledger>(ledger: &L, styles: &Styles, account: &str, day: Day) -> bool {
-    for number in 0..styles.len() {
+fn has_balance<L: Ledger>(ledger: &L, styles: &Styles, account: &str, day: Day) -> bool
+    ensures { result ≡ has_balance (L.book ledger.now) day (declared_commodities styles.now) account.now }
+{
+    'units: for number in 0..styles.len() {
         if ledger.balance(account, Unit(number as u16), day) != 0 {
             return true;
         }
@@ -409,38 +444,68 @@ fn has_balance<L: Ledger>(ledger: &L, styles: &Styles, account: &str, day: Day) 
     false
 }
 
+/// Whether the account is one of revenues or expenses, and has such a balance.
+fn is_left_open<L: Ledger>(ledger: &L, styles: &Styles, account: &Text, day: Day) -> bool
+    ensures { result ≡ is_left_open (L.book ledger.now) day (declared_commodities styles.now) account.now }
+{
+    is_revenue_or_expense(account.as_str()) && has_balance(ledger, styles, account.as_str(), day)
+}
+
 /// Whether revenues or expenses are left to be closed at the day.
-fn is_open<L: Ledger>(ledger: &L, styles: &Styles, day: Day) -> bool {
-    for account in ledger.accounts() {
-        if is_revenue_or_expense(account.as_str())
-            && has_balance(ledger, styles, account.as_str(), day)
-        {
+fn is_open<L: Ledger>(ledger: &L, styles: &Styles, day: Day) -> bool
+    ensures { result ≡ is_year_open styles.now (L.book ledger.now) day }
+{
+    'accounts: for account in ledger.accounts() {
+        if is_left_open(ledger, styles, account, day) {
             return true;
         }
     }
     false
 }
 
-/// Appends the note of a lock through a 31 December that leaves revenues or expenses, and how they are closed now.
+/// Appends that a lock through a 31 December leaves revenues or expenses, and how they are closed now.
+#[tactic(auto, unfolding(crate::specs::OpenYear::open_year_text))]
+fn push_year_left(alloc: Global, branch: &[u8], day: Day, out: &mut Vec<u8>) -> Result<(), Cause>
+    requires { is_in_calendar day ≡ true }
+    ensures value { OnOk result (out.new.items ≡ out.old.items ++ open_year_text branch.now day) }
+    ensures memory { IsOkUnless result Cause.OutOfMemory }
+{
+    push_between(
+        b"note: revenues and expenses of ",
+        branch,
+        b" are not zero through ",
+        out,
+    )?;
+    push_day(alloc, day, out)?;
+    push_between(
+        b"; after this lock, treasury close --branch ",
+        branch,
+        b" --day ",
+        out,
+    )?;
+    push_day(alloc, day_after(day), out)?;
+    out.extend_from_slice(b" closes them\n")?;
+    Ok(())
+}
+
+/// Appends the note of a lock of a branch with that ledger through a 31 December that leaves revenues or expenses.
+#[tactic(auto, using(crate::proofs::OpenYearLemmas::end_of_year_is_dated))]
 pub fn push_open_year<L: Ledger>(
     alloc: Global,
     styles: &Styles,
-    branch: &Branch<L>,
+    ledger: &L,
+    branch: &str,
     day: Day,
     out: &mut Vec<u8>,
-) -> Result<(), Cause> {
-    if !is_end_of_year(alloc, day)? || !is_open(&branch.ledger, styles, day) {
-        return Ok(());
+) -> Result<(), Cause>
+    ensures value { OnOk result (out.new.items
+        ≡ out.old.items ++ open_year_note styles.now (L.book ledger.now) branch.now day) }
+    ensures memory { IsOkUnless result Cause.OutOfMemory }
+{
+    let is_end = is_end_of_year(alloc, day)?;
+    if is_end && is_open(ledger, styles, day) {
+        push_year_left(alloc, branch.as_bytes(), day, out)
+    } else {
+        Ok(())
     }
-    let name = branch.name.as_str().as_bytes();
-    out.extend_from_slice(b"note: revenues and expenses of ")?;
-    push_shown(name, out)?;
-    out.extend_from_slice(b" are not zero through ")?;
-    push_day(alloc, day, out)?;
-    out.extend_from_slice(b"; behind this lock treasury close --branch ")?;
-    push_shown(name, out)?;
-    out.extend_from_slice(b" --day ")?;
-    push_day(alloc, Day(day.0.saturating_add(1)), out)?;
-    out.extend_from_slice(b" closes them\n")?;
-    Ok(())
 }

@@ -35,7 +35,7 @@ pub fn push_sample_note(sample: &str, out: &mut Vec<u8>) -> Result<(), Cause> {
     };
     out.extend_from_slice(b"note: ")?;
     push_shown(sample.as_bytes(), out)?;
-    out.extend_from_slice(b" declares 3 decimals, behind `")?;
+    out.extend_from_slice(b" declares 3 decimals, after `")?;
     out.push(mark)?;
     out.extend_from_slice(b"`, which cannot be changed\n")?;
     Ok(())
