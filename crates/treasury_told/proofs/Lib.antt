@@ -25,4 +25,6 @@ pub mod OddNoteLemmas
 pub mod OtherBranchLemmas
 pub mod FirstNoteLemmas
 pub mod OpenYearLemmas
+pub mod NamedAccountLemmas
+pub mod SampleLemmas
 pub mod ExplainLemmas

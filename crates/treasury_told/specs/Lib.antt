@@ -26,9 +26,11 @@ pub mod Edited
 pub mod NewAccount
 pub mod BroughtAccounts
 pub mod Dated
+pub mod NamedAccount
 pub mod FarDays
 pub mod Missing
 pub mod OpenYear
+pub mod SampleNote
 pub mod OtherBranch
 pub mod FirstNotes
 pub mod RequestFaults

@@ -20,6 +20,11 @@ has_leg_on account r = list_any (λ (l : Leg). bytes_eq l.account account) r.ent
 abbrev pub is_new_account : List Record → List Record → List ℕ → Bool
 is_new_account held new account = list_any (posts_to account) new && not (list_any (has_leg_on account) held)
 
+-- that an account is new to a branch
+abbrev pub unused_account_text : List ℕ → List ℕ → List ℕ
+unused_account_text account branch =
+    shown_text account ++ codes " is an account that no earlier entry of " ++ shown_text branch ++ codes " has"
+
 -- one of the records was imported, and not made by a transfer or a closing
 abbrev pub has_imported : List Record → Bool
 has_imported held = list_any (λ (r : Record). not (is_product_mark r.mark)) held

@@ -1,15 +1,18 @@
 //! Accounts that a branch had in no entry before, or does not have: a name may be mistyped.
 
-ghost use Rattle.std.specs.Prelude.{◌≡◌, ◌++◌, ◌&&◌, ◌||◌, ◌↔◌, true, not, ℕ, List, IfOk, OnOk, IsTrue, is_some};
-ghost use Rattle.std.specs.Prelude.{map, length, codes};
+ghost use Rattle.std.specs.Prelude.{◌≡◌, [], ◌∷◌, ◌++◌, ◌&&◌, ◌||◌, ◌↔◌, true, not, ℕ, List, IfOk, OnOk, IsTrue};
+ghost use Rattle.std.specs.Prelude.{is_some, map, length, codes};
 ghost use Rattle.std.specs.HashMap.{get_by_text};
 ghost use Rattle.std.specs.List.{list_any, filter};
 ghost use Rattle.std.specs.Result.{IsOkUnless};
 ghost use Rattle.std.specs.Str.{bytes_eq};
+ghost use Rattle.book_core.specs.Account.{is_inside};
 ghost use Rattle.journal_format.specs.PostingParts.{account_name_of};
 ghost use Rattle.treasury_told.specs.Listed.{listed};
 ghost use Rattle.treasury_told.specs.NewAccount.{posts_to, has_leg_on, is_new_account, has_imported};
 ghost use Rattle.treasury_told.specs.NewAccount.{unused_account_text, between, unknown_account_text};
+ghost use Rattle.treasury_told.specs.NamedAccount.{unused_note, named_account_note, has_leg_inside, is_unknown};
+ghost use Rattle.treasury_told.specs.NamedAccount.{unknown_accounts};
 ghost use Rattle.treasury_told.specs.BroughtAccounts.{posted_view, posted_on, posted_at, new_ones, first_account_text};
 ghost use Rattle.treasury_told.specs.BroughtAccounts.{further_account_text, further_account_texts, left_out_text};
 ghost use Rattle.treasury_told.specs.BroughtAccounts.{fitting_text, note_of_accounts, accounts_note};
@@ -22,7 +25,7 @@ use crate::explain::shown::{push_number, push_shown};
 use crate::notes::amounts::{behind_next, is_below, is_next};
 use crate::notes::listed::push_more;
 use crate::notes::{Import, MOST};
-use book_core::is_inside;
+use book_core::{Leg, is_inside};
 use journal_lines::Lines;
 use money_core::Cause;
 use std::alloc::Global;
@@ -166,7 +169,7 @@ fn push_unused(account: &[u8], branch: &str, out: &mut Vec<u8>) -> Result<(), Ca
 {
     push_shown(account, out)?;
     out.extend_from_slice(b" is an account that no earlier entry of ")?;
-    push_shown(branch.as_bytes(), out)?;
+    push_shown(branch, out)?;
     out.extend_from_slice(b" has")?;
     Ok(())
 }
@@ -353,16 +356,55 @@ fn is_used(account: &str, held: &[Record]) -> bool
     held.iter().any(|record| has_leg_on(record, account))
 }
 
+/// Whether the leg is on the account or below it.
+fn is_leg_inside(leg: &Leg, account: &str) -> bool
+    ensures { result ≡ is_inside account.now leg.now.account }
+{
+    is_inside(leg.account.as_str(), account)
+}
+
+/// Whether the record has a leg on the account or below it.
+fn has_leg_inside(row: &Record, account: &str) -> bool
+    ensures { result ≡ has_leg_inside account.now row.now }
+{
+    row.entry
+        .legs
+        .items()
+        .iter()
+        .any(|leg| is_leg_inside(leg, account))
+}
+
 /// Whether one of the records has a leg on the account or below it.
-fn is_used_inside(account: &str, held: &[Record]) -> bool {
-    for record in held {
-        for leg in record.entry.legs.items() {
-            if is_inside(leg.account.as_str(), account) {
-                return true;
-            }
-        }
-    }
-    false
+fn is_used_inside(account: &str, held: &[Record]) -> bool
+    ensures { result ≡ list_any (has_leg_inside account.now) held.now }
+{
+    held.iter().any(|record| has_leg_inside(record, account))
+}
+
+/// Whether none of the records has a leg on the account or below it.
+fn is_unknown(account: &str, held: &[Record]) -> bool
+    ensures { result ≡ is_unknown held.now account.now }
+{
+    !is_used_inside(account, held)
+}
+
+/// Appends that the account that an option names is new to a branch.
+#[tactic(auto, unfolding(crate::specs::NamedAccount::unused_note))]
+fn push_named_unused(
+    option: &[u8],
+    account: &[u8],
+    branch: &str,
+    out: &mut Vec<u8>,
+) -> Result<(), Cause>
+    ensures value { OnOk result (out.new.items ≡ out.old.items ++ unused_note option.now account.now branch.now) }
+    ensures memory { IsOkUnless result Cause.OutOfMemory }
+{
+    out.extend_from_slice(b"note: ")?;
+    out.extend_from_slice(option)?;
+    out.extend_from_slice(b": ")?;
+    push_unused(account, branch, out)?;
+    out.extend_from_slice(b"\n")?;
+    Ok(())
 }
 
 /// Appends the note of the account that an option names, if the branch has entries, and none of them a leg on it.
@@ -372,15 +414,27 @@ pub fn push_account(
     branch: &str,
     held: &[Record],
     out: &mut Vec<u8>,
-) -> Result<(), Cause> {
+) -> Result<(), Cause>
+    ensures value { OnOk result (out.new.items
+        ≡ out.old.items ++ named_account_note option.now account.now branch.now held.now) }
+    ensures memory { IsOkUnless result Cause.OutOfMemory }
+{
     if held.is_empty() || is_used(account, held) {
-        return Ok(());
+        Ok(())
+    } else {
+        push_named_unused(option, account.as_bytes(), branch, out)
     }
-    out.extend_from_slice(b"note: ")?;
-    out.extend_from_slice(option)?;
-    out.extend_from_slice(b": ")?;
-    push_unused(account.as_bytes(), branch, out)?;
-    out.extend_from_slice(b"\n")?;
+}
+
+/// Puts an account, if none of the records has a leg on it or below it.
+fn put_unknown<'a>(name: &'a str, held: &[Record], found: &mut Vec<&'a str>) -> Result<(), Cause>
+    ensures value { OnOk result (map (λ name. name.now) found.new.items
+        ≡ map (λ name. name.now) found.old.items ++ filter (is_unknown held.now) (name.now ∷ [])) }
+    ensures memory { IsOkUnless result Cause.OutOfMemory }
+{
+    if is_unknown(name, held) {
+        found.push(name)?;
+    }
     Ok(())
 }
 
@@ -389,13 +443,17 @@ pub fn find_unknown<'a>(
     alloc: Global,
     list: &'a str,
     held: &[Record],
-) -> Result<Vec<&'a str>, Cause> {
+) -> Result<Vec<&'a str>, Cause>
+    ensures value { IfOk result (λ found. map (λ name. name.now) found.items ≡ unknown_accounts held.now list.now) }
+    ensures memory { IsOkUnless result Cause.OutOfMemory }
+{
     let mut found = Vec::new(alloc);
-    for name in list.split(';') {
-        if !is_used_inside(name, held) {
-            found.push(name)?;
-        }
+    let mut rest = list;
+    'names: while let Some((name, more)) = rest.split_once(';') {
+        put_unknown(name, held, &mut found)?;
+        rest = more;
     }
+    put_unknown(rest, held, &mut found)?;
     Ok(found)
 }
 
@@ -435,7 +493,7 @@ fn push_no_account(name: &str, branch: &str, out: &mut Vec<u8>) -> Result<(), Ca
 #[tactic(auto, unfolding(crate::specs::Listed::listed))]
 pub fn push_unknown(found: &[&str], branch: &str, out: &mut Vec<u8>) -> Result<(), Cause>
     ensures value { OnOk result (out.new.items
-        ≡ out.old.items ++ listed MOST (λ name. unknown_account_text branch.now name.now) found.now) }
+        ≡ out.old.items ++ listed MOST (unknown_account_text branch.now) (map (λ name. name.now) found.now)) }
     ensures memory { IsOkUnless result Cause.OutOfMemory }
 {
     let first = &found[..found.len().min(MOST)];
