@@ -10,6 +10,7 @@ pub mod HeldTransfer
 pub mod Lock
 pub mod LeftOver
 pub mod ExactProduct
+pub mod Uneven
 pub mod AtFault
 pub mod Refused
 pub mod Passing

@@ -25,13 +25,18 @@ ghost use Rattle.std.specs.Result.{IsOkUnless};
 ghost use Rattle.money_core.specs.declared.cause.Cause.{Cause as Reason};
 ghost use Rattle.book_core.specs.declared.refusal.Failure.{Failure};
 ghost use Rattle.book_core.specs.declared.refusal.Refusal.TheVariants.{Plain, ClaimFailed};
+ghost use Rattle.journal_format.specs.declared.txn.Located.{Located as Placed};
 ghost use Rattle.treasury_told.specs.declared.explain.at_fault.Bar.{Bar as Hindrance};
+ghost use Rattle.journal_format.specs.Pieces.{Reads};
 ghost use Rattle.treasury_told.specs.AtFault.{cause_of_bar};
 ghost use Rattle.treasury_told.specs.Detail.{IsBare};
+ghost use Rattle.treasury_told.specs.ExactProduct.{inexact_text};
 ghost use Rattle.treasury_told.specs.Failure.{TellsFailure};
+ghost use Rattle.treasury_told.specs.LeftOver.{left_over_text};
 ghost use Rattle.treasury_told.specs.Passing.{IsPassed, IsPassedText, TellsPassed};
 ghost use Rattle.treasury_told.specs.Pieces.{origin_text, sentence_line};
 ghost use Rattle.treasury_told.specs.Refused.{IsBarred, IsBarredText, TellsRefused};
+ghost use Rattle.treasury_told.specs.Uneven.{uneven_text, IsReadImport};
 
 use crate::explain::at_fault::{Bar, bar_of, cause_of, find_barred, push_barred};
 use crate::explain::closing::push_closing;
@@ -45,7 +50,7 @@ pub use crate::explain::sentences::sentence;
 pub use crate::explain::shown::{push_line, push_named, push_number, push_shown};
 use crate::explain::standing::records_of;
 use book_core::{Ledger, Refusal};
-use money_core::{Cause, Fault};
+use money_core::{Cause, Fault, Styles};
 use std::alloc::Global;
 use treasury_core::State;
 use treasury_requests::Request;
@@ -86,7 +91,39 @@ pub fn push_reason(origin: &str, reason: &str, out: &mut Vec<u8>) -> Result<(), 
     Ok(())
 }
 
+/// Appends the line of a fault before the sentence of its refusal.
+fn push_fault(alloc: Global, source: &str, fault: &Fault, out: &mut Vec<u8>) -> Result<(), Cause>
+    ensures value { OnOk result (out.new.items
+        ≡ out.old.items ++ sentence_line (origin_text source.now fault.now.line) fault.now.cause) }
+    ensures memory { IsOkUnless result Cause.OutOfMemory }
+{
+    let mut origin = Vec::new(alloc);
+    push_origin(source, fault.line, &mut origin)?;
+    push_sentence(origin.as_slice(), fault.cause, out)
+}
+
 /// Appends where a journal has its fault, what stands there, and what should.
+fn explain_text(
+    alloc: Global,
+    styles: &Styles,
+    source: &str,
+    text: &[u8],
+    fault: &Fault,
+    out: &mut Vec<u8>,
+) -> Result<(), Cause>
+    ensures inexact { (list : List Placed) → Reads styles.now text.now list
+        → fault.now.cause ≡ Cause.CostNotExact → OnOk result (out.new.items
+        ≡ out.old.items ++ uneven_text source.now text.now list fault.now (inexact_text styles.now)) }
+    ensures left { (list : List Placed) → Reads styles.now text.now list
+        → fault.now.cause ≡ Cause.Unbalanced → OnOk result (out.new.items
+        ≡ out.old.items ++ uneven_text source.now text.now list fault.now (left_over_text styles.now)) }
+{
+    push_fault(alloc, source, fault, out)?;
+    push_source(text, fault.line, out)?;
+    push_fault_hint(alloc, styles, text, fault, out)
+}
+
+/// Appends where the journal of a request has its fault, what stands there, and what should.
 fn explain_fault<L: Ledger>(
     alloc: Global,
     state: &State<L>,
@@ -94,17 +131,21 @@ fn explain_fault<L: Ledger>(
     source: &str,
     fault: &Fault,
     out: &mut Vec<u8>,
-) -> Result<(), Cause> {
-    let mut origin = Vec::new(alloc);
-    push_origin(source, fault.line, &mut origin)?;
-    push_sentence(origin.as_slice(), fault.cause, out)?;
-    match request {
-        Request::Import { journal, .. } => {
-            push_source(journal.as_bytes(), fault.line, out)?;
-            push_fault_hint(alloc, state.styles(), journal.as_bytes(), fault, out)
-        }
-        _ => Ok(()),
-    }
+) -> Result<(), Cause>
+    ensures inexact { (name journal : List ℕ) (list : List Placed)
+        → IsReadImport state.now.styles request.now name journal list → fault.now.cause ≡ Cause.CostNotExact
+        → OnOk result (out.new.items
+        ≡ out.old.items ++ uneven_text source.now journal list fault.now (inexact_text state.now.styles)) }
+    ensures left { (name journal : List ℕ) (list : List Placed)
+        → IsReadImport state.now.styles request.now name journal list → fault.now.cause ≡ Cause.Unbalanced
+        → OnOk result (out.new.items
+        ≡ out.old.items ++ uneven_text source.now journal list fault.now (left_over_text state.now.styles)) }
+{
+    let Request::Import { journal, .. } = request else {
+        return push_fault(alloc, source, fault, out);
+    };
+    let text = journal.as_bytes();
+    explain_text(alloc, state.styles(), source, text, fault, out)
 }
 
 /// Appends the sentence of a refusal by a cause alone, and what stands against the request.

@@ -1,5 +1,12 @@
 //! What a text or a request has to have, where it is refused: forms, limits, and how commodities are written.
 
+ghost use Rattle.std.specs.Prelude.{◌≡◌, ◌++◌, List, OnOk};
+ghost use Rattle.journal_format.specs.declared.txn.Located.{Located as Placed};
+ghost use Rattle.journal_format.specs.Pieces.{Reads};
+ghost use Rattle.treasury_told.specs.LeftOver.{transaction_on, left_over_text};
+ghost use Rattle.treasury_told.specs.ExactProduct.{inexact_text};
+ghost use Rattle.treasury_told.specs.Uneven.{said_of_postings};
+
 use crate::explain::exact::push_exact;
 use crate::explain::limits::limit_at;
 use crate::explain::lines::{line_at, posting_parts, push_blank_postings};
@@ -172,7 +179,10 @@ fn push_product(
     journal: &[u8],
     line: usize,
     out: &mut Vec<u8>,
-) -> Result<(), Cause> {
+) -> Result<(), Cause>
+    ensures { (list : List Placed) → Reads styles.now journal.now list → OnOk result
+        (out.new.items ≡ out.old.items ++ said_of_postings (inexact_text styles.now) (transaction_on line list)) }
+{
     match transaction_at(alloc, styles, journal, line) {
         Ok(Some(txn)) => push_exact(alloc, styles, txn.postings.items(), out),
         Ok(None) => Ok(()),
@@ -185,8 +195,8 @@ fn push_limit(journal: &[u8], line: usize, out: &mut Vec<u8>) -> Result<(), Caus
     push_line(limit_at(journal, line).as_bytes(), out)
 }
 
-/// Appends what a journal should have at the line of a fault.
-pub fn push_fault_hint(
+/// Appends what a journal should have at the line of a fault of its form.
+fn push_form(
     alloc: Global,
     styles: &Styles,
     journal: &[u8],
@@ -206,7 +216,6 @@ pub fn push_fault_hint(
         Cause::UnknownCommodity | Cause::Decimals | Cause::CommodityStyle => {
             push_samples(alloc, styles, b"declared", out)
         }
-        Cause::CostNotExact => push_product(alloc, styles, journal, fault.line, out),
         Cause::Assignment => push_line(
             b"to assert a balance alone, write a zero amount before it: 0.00 EUR = 5.00 EUR",
             out,
@@ -216,7 +225,28 @@ pub fn push_fault_hint(
             out,
         ),
         Cause::TwoBlanks => push_blanks(journal, fault.line, out),
-        Cause::Unbalanced => push_left_over(alloc, styles, journal, fault.line, out),
         _ => Ok(()),
+    }
+}
+
+/// Appends what a journal should have at the line of a fault, or what the transaction whose header stands there has.
+pub fn push_fault_hint(
+    alloc: Global,
+    styles: &Styles,
+    journal: &[u8],
+    fault: &Fault,
+    out: &mut Vec<u8>,
+) -> Result<(), Cause>
+    ensures inexact { (list : List Placed) → Reads styles.now journal.now list → fault.now.cause ≡ Cause.CostNotExact
+        → OnOk result (out.new.items
+        ≡ out.old.items ++ said_of_postings (inexact_text styles.now) (transaction_on fault.now.line list)) }
+    ensures left { (list : List Placed) → Reads styles.now journal.now list → fault.now.cause ≡ Cause.Unbalanced
+        → OnOk result (out.new.items
+        ≡ out.old.items ++ said_of_postings (left_over_text styles.now) (transaction_on fault.now.line list)) }
+{
+    match fault.cause {
+        Cause::CostNotExact => push_product(alloc, styles, journal, fault.line, out),
+        Cause::Unbalanced => push_left_over(alloc, styles, journal, fault.line, out),
+        _ => push_form(alloc, styles, journal, fault, out),
     }
 }

@@ -1,7 +1,9 @@
 //! What the transaction at the line of a fault has.
 
-ghost use Rattle.std.specs.Prelude.{◌≡◌, ◌⊎◌, nat_eq, true, List, IfOk, IfErr, IfSome};
+ghost use Rattle.std.specs.Prelude.{◌≡◌, ◌⊎◌, ◌++◌, nat_eq, pos, true, List, IfOk, IfErr, IfSome, OnOk};
 ghost use Rattle.std.specs.List.{list_all};
+ghost use Rattle.std.specs.Ordering.{int_eq};
+ghost use Rattle.std.specs.Result.{IsOkUnless};
 ghost use Rattle.money_core.specs.declared.cause.Fault.{Fault as FirstFault};
 ghost use Rattle.money_core.specs.AmountText.{IsDeclared};
 ghost use Rattle.money_core.specs.Cost.{cost};
@@ -11,9 +13,10 @@ ghost use Rattle.journal_format.specs.Fault.{IsFirstFault};
 ghost use Rattle.journal_format.specs.Pieces.{Reads};
 ghost use Rattle.journal_format.specs.Printable.{IsPrintable, is_posting};
 ghost use Rattle.journal_balance.specs.Legs.{in_unit, cost_value, value_of, sum_of};
-ghost use Rattle.treasury_told.specs.LeftOver.{transaction_on};
+ghost use Rattle.treasury_told.specs.LeftOver.{transaction_on, left_over_line, left_over_text};
+ghost use Rattle.treasury_told.specs.Uneven.{said_of_postings};
 
-use crate::explain::pieces::push_named_amount;
+use crate::explain::pieces::push_named_sum;
 use journal_format::{Located, Posting, Txn, read_journal};
 use money_core::{Cause, Price, Styles, Unit, cost_of};
 use std::alloc::Global;
@@ -64,6 +67,30 @@ pub fn sum_of(postings: &[Posting], unit: Unit, styles: &Styles) -> i128
     sum
 }
 
+/// Whether a sum is 0.
+fn is_zero(left: i128) -> bool
+    ensures { result ≡ int_eq left (pos 0) }
+{
+    left == 0
+}
+
+/// Appends the line of what is left over in a commodity, where that is not 0.
+fn push_left(
+    alloc: Global,
+    styles: &Styles,
+    unit: Unit,
+    left: i128,
+    out: &mut Vec<u8>,
+) -> Result<(), Cause>
+    ensures value { OnOk result (out.new.items ≡ out.old.items ++ left_over_line styles.now unit left) }
+    ensures memory { IsOkUnless result Cause.OutOfMemory }
+{
+    if is_zero(left) {
+        return Ok(());
+    }
+    push_named_sum(alloc, styles, b"left over", unit, left, out)
+}
+
 /// Appends what the values of postings leave over, commodity by commodity.
 fn push_rest(
     alloc: Global,
@@ -72,14 +99,13 @@ fn push_rest(
     out: &mut Vec<u8>,
 ) -> Result<(), Cause>
     requires { list_all (is_posting styles.now) postings.now ≡ true }
+    ensures value { OnOk result (out.new.items ≡ out.old.items ++ left_over_text styles.now postings.now) }
+    ensures memory { IsOkUnless result Cause.OutOfMemory }
 {
     for number in 0..styles.len() {
         let unit = Unit(number as u16);
-        match i64::try_from(sum_of(postings, unit, styles)) {
-            Ok(0) => {}
-            Ok(sum) => push_named_amount(alloc, styles, b"left over", unit, sum, out)?,
-            Err(_) => {}
-        }
+        let sum = sum_of(postings, unit, styles);
+        push_left(alloc, styles, unit, sum, out)?;
     }
     Ok(())
 }
@@ -129,7 +155,10 @@ pub fn push_left_over(
     text: &[u8],
     line: usize,
     out: &mut Vec<u8>,
-) -> Result<(), Cause> {
+) -> Result<(), Cause>
+    ensures { (list : List Placed) → Reads styles.now text.now list → OnOk result
+        (out.new.items ≡ out.old.items ++ said_of_postings (left_over_text styles.now) (transaction_on line list)) }
+{
     match transaction_at(alloc, styles, text, line) {
         Ok(Some(txn)) => push_rest(alloc, styles, txn.postings.items(), out),
         Ok(None) => Ok(()),

@@ -1,0 +1,13 @@
+use Rattle.std.proofs.Common.{◌≡◌, ◌++◌, subst, Option}
+use Rattle.std.specs.Prelude.{OnOk}
+use Rattle.journal_format.specs.declared.txn.Txn.{Txn}
+use Rattle.treasury_told.specs.LeftOver.{left_over_text}
+use Rattle.treasury_told.specs.Uneven.{said_of_postings}
+use Rattle.treasury_told.proofs.explain.source.push_left_over.Goals as goal
+
+pub returns-in-Ok-Some : goal.returns-in-Ok-Some
+returns-in-Ok-Some c = λ list reads.
+    let is = rw c.in-Ok-Some.field-0-is at (c.in-Ok-Some.ensures.value list reads) in
+    subst (λ (o : Option Txn). OnOk c.push_rest.result (c.push_rest.new.out.items
+    ≡ c.args.out.now.items ++ said_of_postings (left_over_text c.args.styles.now) o)) is
+    (rw c.items.ensures at c.push_rest.ensures.value)
