@@ -21,6 +21,7 @@ pub mod PassingLemmas
 pub mod AddedLemmas
 pub mod MissingLemmas
 pub mod AgainLemmas
+pub mod EditedLemmas
 pub mod OddNoteLemmas
 pub mod OtherBranchLemmas
 pub mod FirstNoteLemmas

@@ -1,11 +1,10 @@
 -- held entries that a file passes over
 use Rattle.std.proofs.Common.{◌≡◌, ◌≤◌, ◌+◌, ◌∙◌, ℕ, zero, suc, Bool, true, false, ◌&&◌, ◌||◌, cond, List, [], ◌∷◌}
-use Rattle.std.proofs.Common.{◌++◌, length, map, refl, ap, sym, subst, arith, Option, Some, None}
-use Rattle.std.specs.Prelude.{is_some, nat_eq, not, if◌then◌else◌, fold, slice_get, Result, Ok, Err}
+use Rattle.std.proofs.Common.{◌++◌, length, map, refl, ap, sym, arith, Option, Some, None}
+use Rattle.std.specs.Prelude.{nat_eq, not, if◌then◌else◌, fold, slice_get, Result, Ok}
 use Rattle.std.specs.Cmp.{unsigned_Decides}
 use Rattle.std.specs.HashMap.{HashMap}
 use Rattle.std.specs.List.{list_any, position_from}
-use Rattle.std.specs.Option.{option_or}
 use Rattle.std.specs.Str.{bytes_eq}
 use Rattle.std.specs.declared.hash.FoldHasher.{FoldHasher}
 use Rattle.std.specs.declared.hash.BuildHasherDefault.{BuildHasherDefault}
@@ -27,7 +26,6 @@ use Rattle.treasury_state.proofs.HeldLemmas.{none_tail}
 use Rattle.treasury_core.specs.Step.{unbalanced, number_in, recorded, records_from, records_in_file, new_in}
 use Rattle.treasury_core.proofs.FileLemmas.{length-new}
 use Rattle.treasury_told.specs.declared.explain.standing.Standing.{Standing}
-use Rattle.treasury_told.specs.declared.explain.standing.Holder.{Holder}
 use Rattle.treasury_told.specs.declared.notes.days.Span.{Span}
 use Rattle.treasury_told.specs.declared.notes.places.NewPlaces.{NewPlaces}
 use Rattle.treasury_told.specs.Standing.{located_of, txns_of, goes_by, holder_at, AreStanding}
@@ -35,7 +33,7 @@ use Rattle.treasury_told.specs.Added.{IsTaken}
 use Rattle.treasury_told.specs.FarDays.{with_day, span_from, span_of}
 use Rattle.treasury_told.specs.Index.{is_place_among}
 use Rattle.treasury_told.specs.Missing.{in_span_of, passes_over, is_passed_over, is_by_record, repeats, TellsOf}
-use Rattle.treasury_told.proofs.RefusedLemmas.{record_of, entry_there}
+use Rattle.treasury_told.proofs.RefusedLemmas.{entry_there}
 
 -- ---- the days of a file's records are those of its transactions
 abbrev day_of : Standing → Day

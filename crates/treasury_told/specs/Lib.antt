@@ -23,6 +23,10 @@ pub mod Again
 pub mod Amounts
 pub mod Near
 pub mod Index
+pub mod EditedEntries
+pub mod Candidates
+pub mod Missing
+pub mod EditedIndex
 pub mod Edited
 pub mod NewAccount
 pub mod BroughtAccounts

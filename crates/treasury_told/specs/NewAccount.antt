@@ -29,11 +29,6 @@ unused_account_text account branch =
 abbrev pub has_imported : List Record → Bool
 has_imported held = list_any (λ (r : Record). not (is_product_mark r.mark)) held
 
--- that an account is new to a branch
-abbrev pub unused_account_text : List ℕ → List ℕ → List ℕ
-unused_account_text account branch =
-    shown_text account ++ codes " is an account that no earlier entry of " ++ shown_text branch ++ codes " has"
-
 -- a text as it is shown, between two others
 unfoldable pub between : List ℕ → List ℕ → List ℕ → List ℕ
 between before text behind = before ++ shown_text text ++ behind

@@ -1,192 +1,44 @@
 //! New entries that may be a held one that was edited: they have its header and accounts, and either its day and other
 //! amounts, or its amounts and a day near it.
 
-ghost use Rattle.std.specs.Prelude.{◌≡◌, ◌++◌, OnOk};
+mod index;
+
+ghost use Rattle.std.specs.Prelude.{◌≡◌, ◌<◌, ◌++◌, ◌∷◌, [], ◌&&◌, if◌then◌else◌, ℕ, Bool, true, not, List, Option};
+ghost use Rattle.std.specs.Prelude.{length, slice_get, IfOk, OnOk};
 ghost use Rattle.std.specs.Cmp.Lexicographic.{pointwise};
 ghost use Rattle.std.specs.List.{list_any};
 ghost use Rattle.std.specs.Result.{IsOkUnless};
+ghost use Rattle.money_core.specs.declared.style.Style.{Style};
+ghost use Rattle.treasury_state.specs.declared.record.Record.{Record as Kept};
+ghost use Rattle.treasury_told.specs.Again.{is_marked, again_of};
 ghost use Rattle.treasury_told.specs.Amounts.{same_amount, same_amounts};
+ghost use Rattle.treasury_told.specs.Candidates.{unmarked_place, may_be_before, candidates_in, candidates_of};
 ghost use Rattle.treasury_told.specs.Edited.{likeness_text, edited_note, edited_text};
+ghost use Rattle.treasury_told.specs.EditedEntries.{with_other_amounts, place_before, edited_with, edited_from};
+ghost use Rattle.treasury_told.specs.EditedEntries.{edited_of};
+ghost use Rattle.treasury_told.specs.EditedIndex.{KeepsFirst, put_before, put_missing, place_among, is_again_at};
 ghost use Rattle.treasury_told.specs.Listed.{listed};
+ghost use Rattle.treasury_told.specs.Missing.{is_passed_over};
 ghost use Rattle.treasury_told.specs.Near.{is_soon_after, is_near};
 
+use crate::explain::numbered::record_at;
 use crate::explain::pieces::push_header;
 use crate::explain::push_origin;
 use crate::explain::shown::push_number;
 use crate::notes::again::{Again, is_marked, push_if_edited};
 use crate::notes::days::{Span, span_of};
+use crate::notes::edited::index::Places;
 use crate::notes::listed::push_more;
 use crate::notes::places::NewPlaces;
 use crate::notes::{Import, MOST};
 use book_core::Leg;
 use journal_format::Txn;
-use journal_lines::Status;
 use money_core::{Cause, Day};
 use std::alloc::Global;
-use std::collections::HashMap;
 use treasury_core::Record;
 
 /// The most days between an entry and the same one with another day.
 const MOST_DAYS: i32 = 6;
-
-/// How many bytes of a key have the day.
-const DAY_BYTES: usize = 4;
-
-/// The day, the header and accounts, and the amounts of a record, one after the other: what it is looked up by.
-#[derive(Drop)]
-struct Key {
-    bytes: Vec<u8>,
-    /// Where the amounts begin.
-    amounts: usize,
-}
-
-impl Key {
-    fn new(alloc: Global) -> Self {
-        Key {
-            bytes: Vec::new(alloc),
-            amounts: 0,
-        }
-    }
-
-    /// Makes it that of a record.
-    fn put(&mut self, record: &Record) -> Result<(), Cause> {
-        self.bytes.clear();
-        self.bytes
-            .extend_from_slice(&record.entry.day.0.to_be_bytes())?;
-        push_names(record, &mut self.bytes)?;
-        self.amounts = self.bytes.len();
-        push_amounts(record, &mut self.bytes)
-    }
-
-    /// Makes it that of the same record on another day.
-    fn put_day(&mut self, day: i32) {
-        if self.bytes.len() >= DAY_BYTES {
-            self.bytes[..DAY_BYTES].copy_from_slice(&day.to_be_bytes());
-        }
-    }
-
-    /// The day, header and accounts.
-    fn of_day(&self) -> &[u8] {
-        let (key, _) = self.bytes.split_at(self.amounts.min(self.bytes.len()));
-        key
-    }
-
-    /// The header, accounts and amounts.
-    fn of_amounts(&self) -> &[u8] {
-        let (_, key) = self.bytes.split_at(DAY_BYTES.min(self.bytes.len()));
-        key
-    }
-
-    /// All of them.
-    fn of_all(&self) -> &[u8] {
-        self.bytes.as_slice()
-    }
-}
-
-/// Appends the header, without its day, and the accounts of a record.
-fn push_names(record: &Record, key: &mut Vec<u8>) -> Result<(), Cause> {
-    key.push(match record.txn.status {
-        None => b' ',
-        Some(Status::Pending) => b'!',
-        Some(Status::Cleared) => b'*',
-    })?;
-    if let Some(code) = &record.txn.code {
-        key.extend_from_slice(code.as_str().as_bytes())?;
-    }
-    key.push(0)?;
-    key.extend_from_slice(record.txn.description.as_str().as_bytes())?;
-    key.push(0)?;
-    for posting in record.txn.postings.items() {
-        key.extend_from_slice(posting.account.as_str().as_bytes())?;
-        key.push(0)?;
-    }
-    Ok(())
-}
-
-/// Appends the amounts of a record.
-fn push_amounts(record: &Record, key: &mut Vec<u8>) -> Result<(), Cause> {
-    for leg in record.entry.legs.items() {
-        key.extend_from_slice(&leg.unit.0.to_be_bytes())?;
-        key.extend_from_slice(&leg.qty.to_be_bytes())?;
-    }
-    Ok(())
-}
-
-/// The places of records, by parts of their keys.
-#[derive(Drop)]
-struct Places {
-    by_day: HashMap<Vec<u8>, usize>,
-    by_amounts: HashMap<Vec<u8>, usize>,
-    by_all: HashMap<Vec<u8>, usize>,
-}
-
-/// Puts a place under a key that has none.
-fn put_first(
-    alloc: Global,
-    places: &mut HashMap<Vec<u8>, usize>,
-    key: &[u8],
-    place: usize,
-) -> Result<(), Cause> {
-    if places.get(key).is_none() {
-        let mut own = Vec::with_capacity(alloc, key.len())?;
-        own.extend_from_slice(key)?;
-        let _ = places.insert(own, place)?;
-    }
-    Ok(())
-}
-
-impl Places {
-    fn new(alloc: Global) -> Self {
-        Places {
-            by_day: HashMap::new(alloc),
-            by_amounts: HashMap::new(alloc),
-            by_all: HashMap::new(alloc),
-        }
-    }
-
-    /// Puts the place of a record with that key.
-    fn put(&mut self, alloc: Global, key: &Key, place: usize) -> Result<(), Cause> {
-        put_first(alloc, &mut self.by_day, key.of_day(), place)?;
-        put_first(alloc, &mut self.by_amounts, key.of_amounts(), place)?;
-        put_first(alloc, &mut self.by_all, key.of_all(), place)
-    }
-
-    /// The first place that has the header, the accounts and the day of the record with that key.
-    fn find_on_day(&self, key: &Key) -> Option<usize> {
-        self.by_day.get(key.of_day()).copied()
-    }
-
-    /// A place that has the header, accounts and amounts of the record with that key, and a day near its own.
-    fn find_near(&self, key: &mut Key, day: Day) -> Option<usize> {
-        if self.by_amounts.get(key.of_amounts()).is_none() {
-            return None;
-        }
-        for days in 1..=MOST_DAYS {
-            key.put_day(day.0.saturating_sub(days));
-            if let Some(place) = self.by_all.get(key.of_all()) {
-                return Some(*place);
-            }
-            key.put_day(day.0.saturating_add(days));
-            if let Some(place) = self.by_all.get(key.of_all()) {
-                return Some(*place);
-            }
-        }
-        None
-    }
-}
-
-/// The places of the unmarked records, by their keys.
-fn places_by_key(alloc: Global, records: &[Record]) -> Result<Places, Cause> {
-    let mut places = Places::new(alloc);
-    let mut key = Key::new(alloc);
-    for (place, record) in records.iter().enumerate() {
-        if !is_marked(record) {
-            key.put(record)?;
-            places.put(alloc, &key, place)?;
-        }
-    }
-    Ok(places)
-}
 
 /// Whether a day is at most six days after another one.
 fn is_soon_after(day: Day, first: Day) -> bool
@@ -210,51 +62,129 @@ fn has_near(span: Span, records: &[Record]) -> bool
     records.iter().any(|record| is_near(span, record))
 }
 
-/// The places of held records that may be new ones, before they were edited. What the file has is not looked at.
-pub fn find_candidates(
+/// Puts the place of an unmarked record before those of others.
+fn put_unmarked<'a>(places: &mut Places<'a>, record: &'a Record, place: usize) -> Result<(), Cause>
+    ensures value { (first : (Kept → Bool) → Option ℕ) → KeepsFirst places.old first
+        → OnOk result (KeepsFirst places.new (put_before (not (is_marked record.now)) record.now place first)) }
+    ensures memory { IsOkUnless result Cause.OutOfMemory }
+{
+    if is_marked(record) {
+        return Ok(());
+    }
+    places.put(record, place)
+}
+
+/// The places of the unmarked records.
+fn unmarked_places<'a>(alloc: Global, records: &'a [Record]) -> Result<Places<'a>, Cause>
+    ensures value { IfOk result (λ places. KeepsFirst places (unmarked_place records.now)) }
+    ensures memory { IsOkUnless result Cause.OutOfMemory }
+{
+    let mut places = Places::new(alloc);
+    let mut place = records.len();
+    // From the last to the first, so that the first one stays.
+    'records: while place > 0 {
+        place -= 1;
+        put_unmarked(&mut places, &records[place], place)?;
+    }
+    Ok(places)
+}
+
+/// Whether a held record may be one of the new ones, before it was edited.
+fn may_be_before(new: &Places<'_>, record: &Record) -> bool
+    ensures { (list : List Kept) → KeepsFirst new.now (unmarked_place list) → result ≡ may_be_before list record.now }
+{
+    new.find_on_day(record).is_some() || new.find_near(record).is_some()
+}
+
+/// Puts the place of a held record after others, if it is near to the days of the new ones and may be one of them.
+fn push_candidate(
+    span: Span,
+    new: &Places<'_>,
+    record: &Record,
+    place: usize,
+    found: &mut Vec<usize>,
+) -> Result<(), Cause>
+    ensures value { (list : List Kept) → KeepsFirst new.now (unmarked_place list) → OnOk result (found.new.items
+        ≡ found.old.items ++ (if is_near span record.now && may_be_before list record.now then place ∷ [] else [])) }
+    ensures memory { IsOkUnless result Cause.OutOfMemory }
+{
+    if is_near(span, record) && may_be_before(new, record) {
+        found.push(place)?;
+    }
+    Ok(())
+}
+
+/// The places of held records that may be new ones, whose days are in that span, before they were edited.
+fn candidates_in(
     alloc: Global,
     held: &[Record],
     new: &[Record],
-) -> Result<Vec<usize>, Cause> {
+    span: Span,
+) -> Result<Vec<usize>, Cause>
+    ensures value { IfOk result (λ found. found.items ≡ candidates_in new.now span 0 held.now) }
+    ensures memory { IsOkUnless result Cause.OutOfMemory }
+{
     let mut found = Vec::new(alloc);
-    let Some(span) = span_of(new) else {
-        return Ok(found);
-    };
     if !has_near(span, held) {
         return Ok(found);
     }
-    let places = places_by_key(alloc, new)?;
-    let mut key = Key::new(alloc);
+    let places = unmarked_places(alloc, new)?;
     for (place, record) in held.iter().enumerate() {
-        if is_near(span, record) {
-            key.put(record)?;
-            let may_be_edited = places.find_on_day(&key).is_some()
-                || places.find_near(&mut key, record.entry.day).is_some();
-            if may_be_edited {
-                found.push(place)?;
-            }
-        }
+        push_candidate(span, &places, record, place, &mut found)?;
     }
     Ok(found)
 }
 
-/// The candidates that are between the first and the last day of the file, and that the file does not have, by their
-/// keys.
-fn missing_of(
+/// The places of held records that may be new ones, before they were edited. What the file has is not looked at.
+pub fn find_candidates(alloc: Global, held: &[Record], new: &[Record]) -> Result<Vec<usize>, Cause>
+    ensures value { IfOk result (λ found. found.items ≡ candidates_of held.now new.now) }
+    ensures memory { IsOkUnless result Cause.OutOfMemory }
+{
+    match span_of(new) {
+        Some(span) => candidates_in(alloc, held, new, span),
+        None => Ok(Vec::new(alloc)),
+    }
+}
+
+/// Puts the place of a held record before those of others, if the file passes over that record.
+fn put_missing<'a>(
+    missing: &mut Places<'a>,
+    held: &'a [Record],
+    place: usize,
+    new_places: &NewPlaces,
+) -> Result<(), Cause>
+    ensures value { (first : (Kept → Bool) → Option ℕ) → KeepsFirst missing.old first → OnOk result
+        (KeepsFirst missing.new (put_missing (is_passed_over new_places.now) place (slice_get held.now place) first)) }
+    ensures memory { IsOkUnless result Cause.OutOfMemory }
+{
+    match held.get(place) {
+        Some(record) => {
+            if new_places.is_missing(place, record.entry.day) {
+                missing.put(record, place)?;
+            }
+            Ok(())
+        }
+        None => Ok(()),
+    }
+}
+
+/// The places, among the candidates, of the records that the file passes over.
+fn missing_of<'a>(
     alloc: Global,
-    held: &[Record],
+    held: &'a [Record],
     candidates: &[usize],
     new_places: &NewPlaces,
-) -> Result<Places, Cause> {
+) -> Result<Places<'a>, Cause>
+    ensures value { IfOk result (λ missing.
+        KeepsFirst missing (place_among (is_passed_over new_places.now) held.now candidates.now)) }
+    ensures memory { IsOkUnless result Cause.OutOfMemory }
+{
     let mut missing = Places::new(alloc);
-    let mut key = Key::new(alloc);
-    for place in candidates {
-        if let Some(record) = held.get(*place) {
-            if new_places.is_missing(*place, record.entry.day) {
-                key.put(record)?;
-                missing.put(alloc, &key, *place)?;
-            }
-        }
+    let mut at = candidates.len();
+    // From the last to the first, so that the first one stays.
+    'candidates: while at > 0 {
+        at -= 1;
+        put_missing(&mut missing, held, candidates[at], new_places)?;
     }
     Ok(missing)
 }
@@ -288,16 +218,30 @@ fn has_amounts_of(record: &Record, other: &Record) -> bool
     are_same_amounts(record.entry.legs.items(), other.entry.legs.items())
 }
 
-/// The place of the held record that a new one with that key was before it was edited, if it may have been.
-fn find_before(held: &[Record], missing: &Places, record: &Record, key: &mut Key) -> Option<usize> {
-    if let Some(place) = missing.find_on_day(key) {
-        if let Some(before) = held.get(place) {
-            if !has_amounts_of(record, before) {
-                return Some(place);
-            }
-        }
+/// The place, if the held record there has other amounts than a new one.
+fn with_other_amounts(held: &[Record], record: &Record, place: Option<usize>) -> Option<usize>
+    ensures { result ≡ with_other_amounts held.now record.now place }
+{
+    let at = place?;
+    let before = record_at(held, at)?;
+    if has_amounts_of(record, before) {
+        None
+    } else {
+        place
     }
-    missing.find_near(key, record.entry.day)
+}
+
+/// The place of the held record that a new one was before it was edited, if it may have been.
+fn find_before(held: &[Record], missing: &Places<'_>, record: &Record) -> Option<usize>
+    ensures { (first : (Kept → Bool) → Option ℕ) → KeepsFirst missing.now first
+        → result ≡ place_before first held.now record.now }
+{
+    let on_day = with_other_amounts(held, record, missing.find_on_day(record));
+    if on_day.is_some() {
+        on_day
+    } else {
+        missing.find_near(record)
+    }
 }
 
 /// A new record, and the held one that it may have been before it was edited.
@@ -311,6 +255,60 @@ pub struct Edited {
     pub has_amounts: bool,
 }
 
+/// Puts a new record and the held one at that place after others, if there is one.
+fn push_with(
+    held: &[Record],
+    at: usize,
+    record: &Record,
+    place: usize,
+    found: &mut Vec<Edited>,
+) -> Result<(), Cause>
+    ensures value { OnOk result (found.new.items
+        ≡ found.old.items ++ edited_with at record.now place (slice_get held.now place)) }
+    ensures memory { IsOkUnless result Cause.OutOfMemory }
+{
+    match record_at(held, place) {
+        Some(before) => {
+            found.push(Edited {
+                new: at,
+                held: place,
+                has_amounts: has_amounts_of(record, before),
+            })?;
+            Ok(())
+        }
+        None => Ok(()),
+    }
+}
+
+/// Puts a new record after others, if it may be a held one of those places, edited.
+fn push_if_edited_of(
+    held: &[Record],
+    missing: &Places<'_>,
+    at: usize,
+    record: &Record,
+    found: &mut Vec<Edited>,
+) -> Result<(), Cause>
+    ensures value { (first : (Kept → Bool) → Option ℕ) → KeepsFirst missing.now first → OnOk result
+        (found.new.items ≡ found.old.items ++ edited_from first held.now at record.now) }
+    ensures memory { IsOkUnless result Cause.OutOfMemory }
+{
+    if is_marked(record) {
+        return Ok(());
+    }
+    match find_before(held, missing, record) {
+        Some(place) => push_with(held, at, record, place, found),
+        None => Ok(()),
+    }
+}
+
+/// Whether the next one that has come again is the new record at that place.
+fn is_next(again: &[Again], next: usize, at: usize) -> bool
+    ensures is { result ≡ is_again_at at (slice_get again.now next) }
+    ensures within { result ≡ true → next < length again.now }
+{
+    next < again.len() && again[next].new == at
+}
+
 /// The new records that may be a candidate that was edited; those of `again` are noted already.
 pub fn find_edited(
     alloc: Global,
@@ -318,26 +316,23 @@ pub fn find_edited(
     new_places: &NewPlaces,
     candidates: &[usize],
     again: &[Again],
-) -> Result<Vec<Edited>, Cause> {
+) -> Result<Vec<Edited>, Cause>
+    // If these are the candidates and those that have come again, as they are found.
+    ensures value { let it = import.now in (styles : List Style)
+        → candidates.now ≡ candidates_of it.held.now it.new.now
+        → again.now ≡ again_of styles it.held.now 0 it.new.now
+        → IfOk result (λ found. found.items
+        ≡ edited_of styles (is_passed_over new_places.now) it.held.now 0 it.new.now) }
+    ensures memory { IsOkUnless result Cause.OutOfMemory }
+{
     let mut found = Vec::new(alloc);
     let missing = missing_of(alloc, import.held, candidates, new_places)?;
-    let mut key = Key::new(alloc);
     let mut next = 0usize;
     for (at, record) in import.new.iter().enumerate() {
-        let is_noted = matches!(again.get(next), Some(noted) if noted.new == at);
-        if is_noted {
-            next = next.saturating_add(1);
-        } else if !missing.by_day.is_empty() && !is_marked(record) {
-            key.put(record)?;
-            if let Some(place) = find_before(import.held, &missing, record, &mut key) {
-                if let Some(held) = import.held.get(place) {
-                    found.push(Edited {
-                        new: at,
-                        held: place,
-                        has_amounts: has_amounts_of(record, held),
-                    })?;
-                }
-            }
+        if is_next(again, next, at) {
+            next += 1;
+        } else {
+            push_if_edited_of(import.held, &missing, at, record, &mut found)?;
         }
     }
     Ok(found)
