@@ -1,9 +1,9 @@
 -- Digits without the zeros at their end, and what they read as.
 use Rattle.std.proofs.Common.{◌≡◌, ◌≤◌, ◌<◌, ◌+◌, ◌-◌, ◌/◌, ◌%◌, ◌^◌, ◌++◌, ◌==◌, ℕ, zero, suc, List, [], ◌∷◌, Bool}
-use Rattle.std.proofs.Common.{true, false, not, ◌&&◌, length, take, drop, arith, filter, replicate, refl, ap, ◌∙◌, sym}
-use Rattle.std.proofs.Common.{append-nil, inl, inr, decimal, length-append, lit<}
+use Rattle.std.proofs.Common.{true, false, length, take, drop, arith, filter, replicate, refl, ap, ◌∙◌}
+use Rattle.std.proofs.Common.{inl, inr, decimal, length-append, lit<}
 use Rattle.std.specs.Char.{is_ascii_digit}
-use Rattle.std.specs.List.{list_all, slice_split}
+use Rattle.std.specs.List.{list_all}
 use Rattle.std.specs.Str.Parse.{digits_value_after}
 use Rattle.std.proofs.lemmas.Bool.{cases_Bool, and_parts, eqb-true, eq-eqb, ne_eqb}
 use Rattle.std.proofs.lemmas.Fmt.{decimal_by_steps_wide}

@@ -1,6 +1,6 @@
 -- the marks and the digits of a sample, looked at one after another
-use Rattle.std.proofs.Common.{◌≡◌, ◌∙◌, refl, ap, sym, ℕ, zero, suc, ◌+◌, ◌==◌, Bool, true, false, ◌&&◌, ◌||◌}
-use Rattle.std.proofs.Common.{List, [], ◌∷◌, length, arith, Option, Some, None, eqb-true, get_or, drop, drop-cons}
+use Rattle.std.proofs.Common.{◌≡◌, ◌∙◌, refl, ap, sym, ℕ, suc, ◌+◌, ◌==◌, Bool, true, false, ◌&&◌, ◌||◌}
+use Rattle.std.proofs.Common.{List, [], ◌∷◌, length, arith, None, eqb-true, get_or, drop, drop-cons}
 use Rattle.std.proofs.Common.{add-one, ◌<◌}
 use Rattle.std.specs.Prelude.{if◌then◌else◌, cond, filter}
 use Rattle.std.specs.Char.{is_ascii_digit}

@@ -242,8 +242,11 @@ fn open_text(
             _ => is_open = is_open && kind(line) == LineKind::Indented,
         }
         if is_open {
+            // Before a line and not after it, so that no text gets longer.
+            if !open.is_empty() {
+                open.push(b'\n')?;
+            }
             open.extend_from_slice(line)?;
-            open.push(b'\n')?;
         }
     }
     Ok(open)

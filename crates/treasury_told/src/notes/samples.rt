@@ -1,7 +1,6 @@
 //! A sample whose only mark stands before three digits: a group mark may have been meant.
 
 ghost use Rattle.std.specs.Prelude.{◌≡◌, ◌++◌, ◌||◌, false, OnOk};
-ghost use Rattle.std.specs.Char.{is_ascii_digit};
 ghost use Rattle.std.specs.Result.{IsOkUnless};
 ghost use Rattle.journal_format.specs.PostingParts.{turned};
 ghost use Rattle.treasury_told.specs.SampleNote.{is_point_or_comma, marks_and_digits, are_digits, if_three, lone_mark};

@@ -11,13 +11,13 @@ ghost use Rattle.treasury_state.specs.declared.record.Record.{Record as Kept};
 ghost use Rattle.treasury_told.specs.declared.notes.edited.index.DayNames.{DayNames as DayKey};
 ghost use Rattle.treasury_told.specs.declared.notes.edited.index.NamesAmounts.{NamesAmounts as Key};
 ghost use Rattle.treasury_told.specs.EditedIndex.{account_writes, amount_writes, names_writes, day_names_writes};
-ghost use Rattle.treasury_told.specs.EditedIndex.{amounts_writes, names_amounts_writes, day_names_equiv};
+ghost use Rattle.treasury_told.specs.EditedIndex.{names_amounts_writes, day_names_equiv};
 ghost use Rattle.treasury_told.specs.EditedIndex.{names_amounts_equiv, on_day_equiv, day_names_alike};
 ghost use Rattle.treasury_told.specs.EditedIndex.{names_amounts_alike, on_day_alike};
 ghost use Rattle.treasury_told.specs.EditedIndex.{same_on_day, on_day_writes};
 ghost use Rattle.treasury_told.specs.EditedIndex.{kept_same_day, kept_on, is_kept, KeepsFirst, put_before};
 ghost use Rattle.treasury_told.specs.EditedEntries.{same_account, same_names, same_day_names, same_names_amounts};
-ghost use Rattle.treasury_told.specs.EditedEntries.{is_same_on, near_days, place_on_days, near_place};
+ghost use Rattle.treasury_told.specs.EditedEntries.{place_on_days, near_place};
 ghost use Rattle.treasury_told.specs.Failure.{text_in};
 
 use crate::notes::edited::has_amounts_of;

@@ -1,4 +1,4 @@
-use Rattle.std.proofs.Common.{rules, ◌≡◌, ◌<◌, ◌-◌, ◌+◌, ◌++◌, ap, sym, ◌∙◌, subst, ℕ, ℤ, List, length, append_assoc}
+use Rattle.std.proofs.Common.{rules, ◌<◌, ◌-◌, ◌+◌, ◌++◌, ap, sym, ◌∙◌, subst, ℕ, ℤ, List, length, append_assoc}
 use Rattle.std.specs.Int.{w128}
 use Rattle.std.proofs.lemmas.Int.{to_z-of_z}
 use Rattle.std.specs.List.{flat_map}

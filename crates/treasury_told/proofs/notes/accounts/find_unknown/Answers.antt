@@ -1,4 +1,4 @@
-use Rattle.std.proofs.Common.{◌≡◌, map, rules}
+use Rattle.std.proofs.Common.{map, rules}
 use Rattle.treasury_told.specs.NamedAccount.{unknown_accounts}
 use Rattle.treasury_told.proofs.NamedAccountLemmas.{first_cut, no_cut, unknown_next, unknown_last}
 use Rattle.treasury_told.proofs.notes.accounts.find_unknown.Goals as goal

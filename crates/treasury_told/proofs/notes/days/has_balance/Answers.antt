@@ -1,5 +1,5 @@
 use Rattle.std.proofs.Common.{◌≡◌, ◌<◌, ◌+◌, ◌-◌, ◌∙◌, ap, sym, arith, pos, ℤ, not, Bool, false, length}
-use Rattle.std.proofs.Common.{int_eq, ℕ, rules, w64, to_z, of_z}
+use Rattle.std.proofs.Common.{int_eq, ℕ, rules, w64, to_z}
 use Rattle.std.proofs.lemmas.Int.{to_z-of_z}
 use Rattle.money_core.specs.declared.unit.Unit.{Unit as Commodity}
 use Rattle.journal_balance.specs.Legs.{commodities, declared_commodities}

@@ -1,4 +1,4 @@
-use Rattle.std.proofs.Common.{◌++◌, ◌∙◌, ap, List, ℕ, codes}
+use Rattle.std.proofs.Common.{◌++◌, ◌∙◌, ap, codes}
 use Rattle.money_core.specs.declared.day.Day.{Day}
 use Rattle.money_core.proofs.Appends.{appended_thrice}
 use Rattle.treasury_told.specs.Pieces.{shown_day}

@@ -1,4 +1,4 @@
-use Rattle.std.proofs.Common.{◌≡◌, ◌≤◌, ◌+◌, ◌∙◌, ap, sym, arith, Bool, true, false, List, [], ◌∷◌, ℕ, suc, length}
+use Rattle.std.proofs.Common.{◌≡◌, ◌≤◌, ◌+◌, ◌∙◌, ap, sym, arith, Bool, true, false, List, ◌∷◌, ℕ, suc, length}
 use Rattle.std.proofs.Common.{drop, get_or, drop_of_length-le}
 use Rattle.std.specs.Char.{is_ascii_digit}
 use Rattle.journal_format.specs.PostingParts.{turned}

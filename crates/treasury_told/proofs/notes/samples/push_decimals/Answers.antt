@@ -1,4 +1,4 @@
-use Rattle.std.proofs.Common.{◌++◌, ◌∷◌, [], List, ℕ, codes}
+use Rattle.std.proofs.Common.{◌++◌, ◌∷◌, [], codes}
 use Rattle.money_core.proofs.Appends.{appended_thrice}
 use Rattle.treasury_told.specs.Shown.{shown_text}
 use Rattle.treasury_told.specs.SampleNote.{decimals_note}
