@@ -169,7 +169,7 @@ fn push_unused(account: &[u8], branch: &str, out: &mut Vec<u8>) -> Result<(), Ca
 {
     push_shown(account, out)?;
     out.extend_from_slice(b" is an account that no earlier entry of ")?;
-    push_shown(branch, out)?;
+    push_shown(branch.as_bytes(), out)?;
     out.extend_from_slice(b" has")?;
     Ok(())
 }
