@@ -36,6 +36,7 @@ pub mod FarDays
 pub mod Missing
 pub mod OpenYear
 pub mod SampleNote
+pub mod RequestNotes
 pub mod OtherBranch
 pub mod FirstNotes
 pub mod RequestFaults

@@ -15,16 +15,27 @@ mod other_branch;
 pub(crate) mod places;
 pub(crate) mod samples;
 
-ghost use Rattle.std.specs.Prelude.{◌≡◌, ℕ, List, take, drop, OnOk, Some};
+ghost use Rattle.std.specs.Prelude.{◌≡◌, ◌++◌, ℕ, List, take, drop, codes, OnOk, Some, None, IfSome};
+ghost use Rattle.std.specs.Option.{option_map};
+ghost use Rattle.std.specs.Result.{IsOkUnless};
 ghost use Rattle.journal_format.specs.declared.txn.Located.{Located};
-ghost use Rattle.treasury_state.specs.Federation.{records_of};
+ghost use Rattle.treasury_state.specs.Federation.{records_of, entries};
+ghost use Rattle.treasury_state.specs.Seen.{branch_of};
 ghost use Rattle.treasury_told.specs.declared.notes.BranchBefore.{BranchBefore as HeldOfBranch};
 ghost use Rattle.treasury_told.specs.Added.{added_lines, IsTaken, IsEntered};
 ghost use Rattle.treasury_told.specs.OtherBranch.{AreAllPrintable};
 ghost use Rattle.treasury_told.specs.FirstNotes.{first_notes, notes_first, BeginsWithNotes};
+ghost use Rattle.treasury_told.specs.NamedAccount.{named_account_if, unknown_notes};
+ghost use Rattle.treasury_told.specs.Lock.{branch_asked};
+ghost use Rattle.treasury_told.specs.Failure.{journal_asked};
+ghost use Rattle.treasury_told.specs.RequestNotes.{branch_in, amount_asked};
+ghost use Rattle.treasury_told.specs.RequestNotes.{is_locked_through, locked_words, lock_notes, closed_words};
+ghost use Rattle.treasury_told.specs.RequestNotes.{closing_notes, late_if, odd_if, transfer_notes, entry_notes};
+ghost use Rattle.treasury_told.specs.RequestNotes.{added_notes, notes_on, notes_if_there, commodity_notes};
+ghost use Rattle.treasury_told.specs.RequestNotes.{request_notes, notes_ahead};
 
 use crate::explain::standing::{branch_named, records_of};
-use crate::explain::transfers::{part_of, transfer_of};
+use crate::explain::transfers::transfer_of;
 use crate::notes::accounts::{find_unknown, push_account, push_unknown};
 use crate::notes::amounts::push_odd_amount;
 use crate::notes::days::{
@@ -34,10 +45,11 @@ pub(crate) use crate::notes::import::Import;
 use crate::notes::import::note_import;
 use crate::notes::samples::push_sample_note;
 use book_core::Ledger;
-use money_core::{Cause, Day, Text};
+use money_core::{Cause, Day, Styles, Text};
 use std::alloc::Global;
-use treasury_core::{Branch, Record, State};
+use treasury_core::{Branch, Record, State, Transfer};
 use treasury_requests::Request;
+use treasury_state::find_branch;
 
 /// The most notes of one kind; of more, a count is given.
 pub const MOST: usize = 5;
@@ -60,15 +72,28 @@ pub struct HeldBefore {
     branch: Option<BranchBefore>,
 }
 
-/// The branch to whose book a request may add.
-fn branch_of<'a, L: Ledger>(state: &'a State<L>, request: &Request) -> Option<&'a Branch<L>> {
+/// The name of the branch to whose book a request may add.
+fn branch_asked(request: &Request) -> Option<&Text>
+    ensures { option_map (λ name. name.now) result ≡ branch_asked request.now }
+{
     match request {
-        Request::Import { branch, .. } => branch_named(state, branch.as_str()),
-        Request::Dispatch { from, .. } => branch_named(state, from.as_str()),
-        Request::Receive { branch, .. } => branch_named(state, branch.as_str()),
-        Request::Lock { branch, .. } => branch_named(state, branch.as_str()),
-        Request::Close { branch, .. } => branch_named(state, branch.as_str()),
+        Request::Import { branch, .. } => Some(branch),
+        Request::Dispatch { from, .. } => Some(from),
+        Request::Receive { branch, .. } => Some(branch),
+        Request::Lock { branch, .. } => Some(branch),
+        Request::Close { branch, .. } => Some(branch),
         _ => None,
+    }
+}
+
+/// That branch, if it is there; its ledger has the entries of its records.
+fn branch_of<'a, L: Ledger>(state: &'a State<L>, request: &Request) -> Option<&'a Branch<L>>
+    ensures value { option_map (λ b. branch_of b.now) result ≡ branch_in state.now (branch_asked request.now) }
+    ensures kept { IfSome result (λ b. L.book b.now.ledger ≡ entries b.now.records) }
+{
+    match branch_asked(request) {
+        Some(name) => find_branch(state, name.as_str()),
+        None => None,
     }
 }
 
@@ -96,26 +121,100 @@ pub fn held_before<L: Ledger>(state: Option<&State<L>>, request: &Request) -> Op
     }
 }
 
-/// Appends the notes of a lock that a branch did not have before.
-fn note_lock<L: Ledger>(
-    alloc: Global,
-    state: &State<L>,
-    branch: &Branch<L>,
-    day: Day,
-    before: BranchBefore,
-    out: &mut Vec<u8>,
-) -> Result<(), Cause> {
-    if before.locked == Some(day) {
-        return Ok(());
+/// Whether a branch is locked through that very day.
+fn is_locked_through(locked: Option<Day>, day: Day) -> bool
+    ensures { result ≡ is_locked_through locked day }
+{
+    match locked {
+        Some(lock) => lock.0 == day.0,
+        None => false,
     }
-    let name = branch.name.as_str();
-    let done: &[u8] = if before.is_dry_run {
+}
+
+/// What is said of a lock before its day.
+fn locked_words(is_dry_run: bool) -> &'static [u8]
+    ensures { result.now ≡ locked_words is_dry_run }
+{
+    if is_dry_run {
         b"; the branch would be locked through "
     } else {
         b"; the branch is now locked through "
-    };
+    }
+}
+
+/// What is said of a closing before its day.
+fn closed_words(is_dry_run: bool) -> &'static [u8]
+    ensures { result.now ≡ closed_words is_dry_run }
+{
+    if is_dry_run {
+        b"; the branch would be closed and locked through "
+    } else {
+        b"; the branch is now closed and locked through "
+    }
+}
+
+/// Appends the notes of a lock, if the branch was locked through another day before, or through none.
+fn note_lock<L: Ledger>(
+    alloc: Global,
+    styles: &Styles,
+    branch: &Branch<L>,
+    day: Day,
+    locked: Option<Day>,
+    is_dry_run: bool,
+    out: &mut Vec<u8>,
+) -> Result<(), Cause>
+    requires { L.book branch.now.ledger ≡ entries branch.now.records }
+    ensures value { OnOk result (out.new.items
+        ≡ out.old.items ++ lock_notes styles.now (branch_of branch.now) day locked is_dry_run) }
+    ensures memory { IsOkUnless result Cause.OutOfMemory }
+{
+    if is_locked_through(locked, day) {
+        return Ok(());
+    }
+    let name = branch.name.as_str();
+    let done = locked_words(is_dry_run);
     push_early_lock(alloc, name, branch.records.items(), day, done, out)?;
-    push_open_year(alloc, state.styles(), &branch.ledger, name, day, out)
+    push_open_year(alloc, styles, &branch.ledger, name, day, out)
+}
+
+/// Appends the notes of the accounts that are listed, if any are, and that a branch with these records does not have.
+#[tactic(auto, unfolding(crate::specs::NamedAccount::unknown_notes))]
+fn push_unknown_of(
+    alloc: Global,
+    accounts: Option<&Text>,
+    branch: &str,
+    held: &[Record],
+    out: &mut Vec<u8>,
+) -> Result<(), Cause>
+    ensures value { OnOk result (out.new.items
+        ≡ out.old.items ++ unknown_notes branch.now (option_map (λ list. list.now) accounts.entry) held.now) }
+    ensures memory { IsOkUnless result Cause.OutOfMemory }
+{
+    match accounts {
+        Some(list) => {
+            let unknown = find_unknown(alloc, list.as_str(), held)?;
+            push_unknown(unknown.as_slice(), branch, out)
+        }
+        None => Ok(()),
+    }
+}
+
+/// Appends the note of the target of a closing, if one is named, and the branch has entries, and none of them a leg on
+/// it.
+fn push_target(
+    into: Option<&Text>,
+    branch: &str,
+    held: &[Record],
+    out: &mut Vec<u8>,
+) -> Result<(), Cause>
+    ensures value { OnOk result (out.new.items ≡ out.old.items
+        ++ named_account_if (codes "--into") (option_map (λ account. account.now) into.entry) branch.now held.now) }
+    ensures memory { IsOkUnless result Cause.OutOfMemory }
+{
+    match into {
+        Some(account) => push_account(b"--into", account.as_str(), branch, held, out),
+        None => Ok(()),
+    }
 }
 
 /// Appends the notes of a closing that a branch with these records got: of the accounts that are listed, of its day,
@@ -129,31 +228,63 @@ fn note_close(
     into: Option<&Text>,
     is_dry_run: bool,
     out: &mut Vec<u8>,
-) -> Result<(), Cause> {
-    if let Some(list) = accounts {
-        let unknown = find_unknown(alloc, list.as_str(), held)?;
-        push_unknown(unknown.as_slice(), branch, out)?;
-    }
-    let done: &[u8] = if is_dry_run {
-        b"; the branch would be closed and locked through "
-    } else {
-        b"; the branch is now closed and locked through "
-    };
+) -> Result<(), Cause>
+    ensures value { OnOk result (out.new.items
+        ≡ out.old.items ++ closing_notes branch.now held.now day (option_map (λ list. list.now) accounts.entry)
+        (option_map (λ account. account.now) into.entry) is_dry_run) }
+    ensures memory { IsOkUnless result Cause.OutOfMemory }
+{
+    push_unknown_of(alloc, accounts, branch, held, out)?;
+    let done = closed_words(is_dry_run);
     push_early_closing(alloc, branch, held, day, done, out)?;
-    match into {
-        Some(account) => push_account(b"--into", account.as_str(), branch, held, out),
+    push_target(into, branch, held, out)
+}
+
+/// The amount of a dispatch, or of a part that is received.
+fn amount_of(request: &Request) -> Option<&Text>
+    ensures { option_map (λ amount. amount.now) result ≡ amount_asked request.now }
+{
+    match request {
+        Request::Dispatch { amount, .. } => Some(amount),
+        Request::Receive { part, .. } => match part {
+            Some(part) => Some(&part.amount),
+            None => None,
+        },
+        _ => None,
+    }
+}
+
+/// Appends the note of a receipt whose day is far after that of the dispatch, if that is there.
+fn push_late_if(
+    alloc: Global,
+    transfer: Option<&Transfer>,
+    day: Day,
+    out: &mut Vec<u8>,
+) -> Result<(), Cause>
+    ensures value { OnOk result (out.new.items
+        ≡ out.old.items ++ late_if day (option_map (λ t. t.now) transfer.entry)) }
+    ensures memory { IsOkUnless result Cause.OutOfMemory }
+{
+    match transfer {
+        Some(transfer) => push_late_receipt(alloc, transfer, day, out),
         None => Ok(()),
     }
 }
 
-/// The amount of a dispatch, or of a part that is received.
-fn amount_of(request: &Request) -> Option<&Text> {
-    match request {
-        Request::Dispatch { amount, .. } => Some(amount),
-        _ => match part_of(request) {
-            Some(part) => Some(&part.amount),
-            None => None,
-        },
+/// Appends the note of an amount, if there is one.
+fn push_odd_if(
+    alloc: Global,
+    styles: &Styles,
+    amount: Option<&Text>,
+    out: &mut Vec<u8>,
+) -> Result<(), Cause>
+    ensures value { OnOk result (out.new.items
+        ≡ out.old.items ++ odd_if styles.now (option_map (λ text. text.now) amount.entry)) }
+    ensures memory { IsOkUnless result Cause.OutOfMemory }
+{
+    match amount {
+        Some(amount) => push_odd_amount(alloc, styles, amount.as_str(), out),
+        None => Ok(()),
     }
 }
 
@@ -168,14 +299,14 @@ fn note_transfer<L: Ledger>(
     branch: &str,
     held: &[Record],
     out: &mut Vec<u8>,
-) -> Result<(), Cause> {
+) -> Result<(), Cause>
+    ensures value { OnOk result (out.new.items
+        ≡ out.old.items ++ transfer_notes state.now request.now day account.now branch.now held.now) }
+    ensures memory { IsOkUnless result Cause.OutOfMemory }
+{
     push_far_transfer(alloc, held, day, branch, out)?;
-    if let Some(transfer) = transfer_of(state, request) {
-        push_late_receipt(alloc, transfer, day, out)?;
-    }
-    if let Some(amount) = amount_of(request) {
-        push_odd_amount(alloc, state.styles(), amount.as_str(), out)?;
-    }
+    push_late_if(alloc, transfer_of(state, request), day, out)?;
+    push_odd_if(alloc, state.styles(), amount_of(request), out)?;
     push_account(b"--account", account.as_str(), branch, held, out)
 }
 
@@ -188,7 +319,11 @@ fn note_entry<L: Ledger>(
     held: &[Record],
     is_dry_run: bool,
     out: &mut Vec<u8>,
-) -> Result<(), Cause> {
+) -> Result<(), Cause>
+    ensures value { OnOk result (out.new.items
+        ≡ out.old.items ++ entry_notes state.now request.now branch.now is_dry_run held.now) }
+    ensures memory { IsOkUnless result Cause.OutOfMemory }
+{
     match request {
         Request::Dispatch { day, account, .. } => {
             note_transfer(alloc, state, request, *day, account, branch, held, out)
@@ -209,6 +344,57 @@ fn note_entry<L: Ledger>(
     }
 }
 
+/// Appends the notes of a request by which a branch with these records got the new ones, an import aside.
+fn note_added<L: Ledger>(
+    alloc: Global,
+    state: &State<L>,
+    request: &Request,
+    branch: &str,
+    held: &[Record],
+    new: &[Record],
+    is_dry_run: bool,
+    out: &mut Vec<u8>,
+) -> Result<(), Cause>
+    ensures value { OnOk result (out.new.items
+        ≡ out.old.items ++ added_notes state.now request.now branch.now is_dry_run held.now new.now) }
+    ensures memory { IsOkUnless result Cause.OutOfMemory }
+{
+    if new.is_empty() {
+        Ok(())
+    } else {
+        note_entry(alloc, state, request, branch, held, is_dry_run, out)
+    }
+}
+
+/// Appends the notes of a request, an import aside, on a branch that was locked like this before, held these records,
+/// and got the new ones.
+fn note_on<L: Ledger>(
+    alloc: Global,
+    state: &State<L>,
+    request: &Request,
+    branch: &Branch<L>,
+    locked: Option<Day>,
+    is_dry_run: bool,
+    held: &[Record],
+    new: &[Record],
+    out: &mut Vec<u8>,
+) -> Result<(), Cause>
+    requires { L.book branch.now.ledger ≡ entries branch.now.records }
+    ensures value { OnOk result (out.new.items ≡ out.old.items
+        ++ notes_on state.now request.now (branch_of branch.now) locked is_dry_run held.now new.now) }
+    ensures memory { IsOkUnless result Cause.OutOfMemory }
+{
+    match request {
+        Request::Lock { day, .. } => {
+            note_lock(alloc, state.styles(), branch, *day, locked, is_dry_run, out)
+        }
+        _ => {
+            let name = branch.name.as_str();
+            note_added(alloc, state, request, name, held, new, is_dry_run, out)
+        }
+    }
+}
+
 /// The first records, so many, and those after them.
 fn parted(records: &[Record], count: usize) -> (&[Record], &[Record])
     ensures first { result.0.now ≡ take count records.now }
@@ -219,22 +405,6 @@ fn parted(records: &[Record], count: usize) -> (&[Record], &[Record])
     } else {
         (records, &[])
     }
-}
-
-/// Appends the notes of a request that was answered, and no refusal, on a branch.
-fn push_notes_on<L: Ledger>(
-    alloc: Global,
-    state: &State<L>,
-    branch: &Branch<L>,
-    request: &Request,
-    source: &str,
-    before: BranchBefore,
-    out: &mut Vec<u8>,
-) -> Result<(), Cause> {
-    let (held, new) = parted(branch.records.items(), before.entries);
-    push_notes_of(
-        alloc, state, branch, request, source, before, held, new, out,
-    )
 }
 
 /// Appends the notes of an import into a branch that held these records, and got the new ones.
@@ -294,37 +464,67 @@ fn push_import_notes<L: Ledger>(
     }
 }
 
-/// Appends the notes of a request on a branch that held these records, and got the new ones.
-fn push_notes_of<L: Ledger>(
+/// Appends the notes of a request that was answered, and no refusal, an import aside; what its branch held before.
+fn push_others<L: Ledger>(
     alloc: Global,
     state: &State<L>,
-    branch: &Branch<L>,
     request: &Request,
-    source: &str,
     before: BranchBefore,
-    held: &[Record],
-    new: &[Record],
     out: &mut Vec<u8>,
-) -> Result<(), Cause> {
-    let name = branch.name.as_str();
-    match request {
-        Request::Import { journal, .. } => {
-            let journal = journal.as_bytes();
-            push_import(
-                alloc, state, branch, name, journal, source, before, held, new, out,
+) -> Result<(), Cause>
+    ensures value { OnOk result (out.new.items ≡ out.old.items
+        ++ notes_if_there state.now request.now before (branch_in state.now (branch_asked request.now))) }
+    ensures memory { IsOkUnless result Cause.OutOfMemory }
+{
+    match branch_of(state, request) {
+        Some(branch) => {
+            let (held, new) = parted(branch.records.items(), before.entries);
+            let (locked, is_dry_run) = (before.locked, before.is_dry_run);
+            note_on(
+                alloc, state, request, branch, locked, is_dry_run, held, new, out,
             )
         }
-        Request::Lock { day, .. } => note_lock(alloc, state, branch, *day, before, out),
-        _ if new.is_empty() => Ok(()),
-        _ => note_entry(alloc, state, request, name, held, before.is_dry_run, out),
+        None => Ok(()),
     }
 }
 
-/// Appends the notes of a dry run of a request that would add these records to its branch.
-pub(crate) fn push_notes_ahead<L: Ledger>(
+/// Appends the notes of a dry run of a request, an import aside, that would add these records to its branch.
+fn push_others_ahead<L: Ledger>(
     alloc: Global,
     state: &State<L>,
     request: &Request,
+    new: &[Record],
+    out: &mut Vec<u8>,
+) -> Result<(), Cause>
+    ensures value { OnOk result (out.new.items ≡ out.old.items ++ notes_ahead state.now request.now new.now) }
+    ensures memory { IsOkUnless result Cause.OutOfMemory }
+{
+    match branch_of(state, request) {
+        Some(branch) => {
+            let held = branch.records.items();
+            note_on(
+                alloc,
+                state,
+                request,
+                branch,
+                branch.locked,
+                true,
+                held,
+                new,
+                out,
+            )
+        }
+        None => Ok(()),
+    }
+}
+
+/// Appends the notes of a dry run of an import that would add these records to the branch of that name.
+fn push_import_ahead<L: Ledger>(
+    alloc: Global,
+    state: &State<L>,
+    request: &Request,
+    name: &str,
+    journal: &[u8],
     source: &str,
     new: &[Record],
     out: &mut Vec<u8>,
@@ -339,9 +539,30 @@ pub(crate) fn push_notes_ahead<L: Ledger>(
         is_dry_run: true,
     };
     let records = branch.records.items();
-    push_notes_of(
-        alloc, state, branch, request, source, before, records, new, out,
+    push_import(
+        alloc, state, branch, name, journal, source, before, records, new, out,
     )
+}
+
+/// Appends the notes of a dry run of a request that would add these records to its branch.
+pub(crate) fn push_notes_ahead<L: Ledger>(
+    alloc: Global,
+    state: &State<L>,
+    request: &Request,
+    source: &str,
+    new: &[Record],
+    out: &mut Vec<u8>,
+) -> Result<(), Cause>
+    ensures others { journal_asked request.now ≡ None → OnOk result
+        (out.new.items ≡ out.old.items ++ notes_ahead state.now request.now new.now) }
+{
+    match request {
+        Request::Import { branch, journal } => {
+            let (name, journal) = (branch.as_str(), journal.as_bytes());
+            push_import_ahead(alloc, state, request, name, journal, source, new, out)
+        }
+        _ => push_others_ahead(alloc, state, request, new, out),
+    }
 }
 
 /// Appends the notes of a request that was answered, and no refusal, on a branch that held this before.
@@ -357,14 +578,33 @@ fn push_answered<L: Ledger>(
         → IsEntered state.now request.now name journal before.entries list → OnOk result
         (BeginsWithNotes (notes_first state.now name source.now journal before.entries list)
         out.old.items out.new.items) }
+    ensures others { journal_asked request.now ≡ None → OnOk result (out.new.items ≡ out.old.items
+        ++ notes_if_there state.now request.now before (branch_in state.now (branch_asked request.now))) }
 {
-    if let Request::Import { branch, journal } = request {
-        let (name, journal) = (branch.as_str(), journal.as_bytes());
-        return push_import_notes(alloc, state, name, journal, source, before, out);
+    match request {
+        Request::Import { branch, journal } => {
+            let (name, journal) = (branch.as_str(), journal.as_bytes());
+            push_import_notes(alloc, state, name, journal, source, before, out)
+        }
+        _ => push_others(alloc, state, request, before, out),
     }
-    match branch_of(state, request) {
-        Some(branch) => push_notes_on(alloc, state, branch, request, source, before, out),
-        None => Ok(()),
+}
+
+/// Appends the note of the sample of a commodity, if it was declared: so many were known before.
+fn push_sample<L: Ledger>(
+    state: &State<L>,
+    sample: &str,
+    known: usize,
+    out: &mut Vec<u8>,
+) -> Result<(), Cause>
+    ensures value { OnOk result (out.new.items
+        ≡ out.old.items ++ commodity_notes state.now.styles sample.now known) }
+    ensures memory { IsOkUnless result Cause.OutOfMemory }
+{
+    if state.styles().len() > known {
+        push_sample_note(sample, out)
+    } else {
+        Ok(())
     }
 }
 
@@ -382,15 +622,21 @@ fn push_notes<L: Ledger>(
         → IsEntered state.now request.now name journal held.entries list → OnOk result
         (BeginsWithNotes (notes_first state.now name source.now journal held.entries list)
         out.old.items out.new.items) }
+    // Those of any other request are all told.
+    ensures others { journal_asked request.now ≡ None → OnOk result
+        (out.new.items ≡ out.old.items ++ request_notes state.now request.now before) }
 {
-    if let Request::Commodity { sample } = request {
-        if state.styles().len() > before.commodities {
-            return push_sample_note(sample.as_str(), out);
-        }
-    }
-    match before.branch {
-        Some(before) => push_answered(alloc, state, request, source, before, out),
-        None => Ok(()),
+    match request {
+        Request::Commodity { sample } => push_sample(
+            state,
+            sample.as_str(),
+            before.commodities,
+            out,
+        ),
+        _ => match before.branch {
+            Some(before) => push_answered(alloc, state, request, source, before, out),
+            None => Ok(()),
+        },
     }
 }
 
