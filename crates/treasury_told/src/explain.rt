@@ -23,8 +23,9 @@ pub(crate) mod transfers;
 ghost use Rattle.std.specs.Prelude.{◌≡◌, ℕ, List, [], ◌++◌, OnOk};
 ghost use Rattle.std.specs.Result.{IsOkUnless};
 ghost use Rattle.money_core.specs.declared.cause.Cause.{Cause as Reason};
+ghost use Rattle.money_core.specs.declared.cause.Fault.{Fault as FirstFault};
 ghost use Rattle.book_core.specs.declared.refusal.Failure.{Failure};
-ghost use Rattle.book_core.specs.declared.refusal.Refusal.TheVariants.{Plain, ClaimFailed};
+ghost use Rattle.book_core.specs.declared.refusal.Refusal.TheVariants.{Plain, Text, ClaimFailed};
 ghost use Rattle.journal_format.specs.declared.txn.Located.{Located as Placed};
 ghost use Rattle.treasury_told.specs.declared.explain.at_fault.Bar.{Bar as Hindrance};
 ghost use Rattle.journal_format.specs.Pieces.{Reads};
@@ -274,6 +275,15 @@ pub fn explain<L: Ledger>(
     ensures passed { (name journal : List ℕ) → IsPassed state.now request.now name journal
         → refusal.now ≡ Plain Cause.Limit → OnOk result
         (TellsPassed state.now name source.now journal out.old.items out.new.items) }
+    // Of an import that is refused since a cost is not exact, it is the exact product of the first such cost of the
+    // transaction on the line of the fault.
+    ensures inexact { (fault : FirstFault) (name journal : List ℕ) (list : List Placed) → refusal.now ≡ Text fault
+        → fault.cause ≡ Cause.CostNotExact → IsReadImport state.now.styles request.now name journal list → OnOk result
+        (out.new.items ≡ out.old.items ++ uneven_text source.now journal list fault (inexact_text state.now.styles)) }
+    // Of one that is refused since the values of a transaction do not sum to zero, it is what that one leaves over.
+    ensures left { (fault : FirstFault) (name journal : List ℕ) (list : List Placed) → refusal.now ≡ Text fault
+        → fault.cause ≡ Cause.Unbalanced → IsReadImport state.now.styles request.now name journal list → OnOk result
+        (out.new.items ≡ out.old.items ++ uneven_text source.now journal list fault (left_over_text state.now.styles)) }
     // Of a refusal by a cause alone of which no more is said than its sentence, that is all.
     ensures bare { (cause : Reason) → refusal.now ≡ Plain cause → IsBare request.now cause → OnOk result
         (out.new.items ≡ out.old.items ++ sentence_line [] cause) }
