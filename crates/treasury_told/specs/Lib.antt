@@ -33,7 +33,6 @@ pub mod BroughtAccounts
 pub mod Dated
 pub mod NamedAccount
 pub mod FarDays
-pub mod Missing
 pub mod OpenYear
 pub mod SampleNote
 pub mod RequestNotes
