@@ -43,6 +43,6 @@ pub use same::Same;
 pub use sample::read_style;
 pub use style::{Style, is_style};
 pub use styles::Styles;
-pub use symbol::{MAX_SYMBOL_LEN, name_part_law, read_symbol};
+pub use symbol::{MAX_SYMBOL_LEN, is_bare, name_part_law, read_symbol};
 pub use text::{Text, text_of};
 pub use unit::{Declared, Unit};
