@@ -25,4 +25,5 @@ pub mod UpgradeLemmas
 pub mod QueriesLemmas
 pub mod FailingLemmas
 pub mod LoadLemmas
+pub mod ReadingLemmas
 pub mod SameLemmas

@@ -25,7 +25,7 @@ use Rattle.treasury_tables.proofs.QueriedLemmas.{shown_same}
 
 module _ (sql : List ℕ) (params : Row) (old new : State) where
   -- a query that answers is of a connection that is open
-  shown_open : (rows : List Row) → Shown sql params old new rows → IsTrue old.is_open × IsTrue new.is_open
+  pub shown_open : (rows : List Row) → Shown sql params old new rows → IsTrue old.is_open × IsTrue new.is_open
   unfolding Shown
   shown_open rows h = opens h.0.returning h.2
     where
@@ -89,20 +89,13 @@ same_error {g = g} {old = old} {new = new} e r is q =
     (record { opened = λ clean. tt; was_open = q.was_open; undone = q.undone; survives = q.survives })
 
 module _ {S : Type 0} (g : Ghosts S) where
-  -- one query
-  pub one_query : {X : Type 0} (old new : Held S) (sql : List ℕ) (params : Row) (rows : X → List Row)
-      (r : Result X Error) → IsPlain (understood store_schema sql)
-      → (IsFaithful g new → IfOk r (λ x. Shown sql params (state g old) (state g new) (rows x)))
-      → (IsFaithful g new → IfErr r (FailsToQuery sql params (state g old) (state g new)))
-      → Survives (state g old) (state g new) (CommitsShowing sql params (state g old)) → Queries g old new r
-  one_query old new sql params rows (Ok x) plain ok err left = record {
-    opened = λ clean. shown_open sql params (state g old) (state g new) (rows x) (ok clean);
-    was_open = λ clean is. (shown_open sql params (state g old) (state g new) (rows x) (ok clean)).0;
-    undone = λ clean is. tt;
-    survives = survives_weaker (state g old) (state g new) _ _
-        (λ clean trees h. ours_shows_no_commit sql params (state g old) plain trees h) left;
-  }
-  one_query old new sql params rows (Err e) plain ok err left = record {
+  -- a query that fails
+  pub failed_query : {X : Type 0} (old new : Held S) (sql : List ℕ) (params : Row) (e : Error)
+      → IsPlain (understood store_schema sql)
+      → (IsFaithful g new → FailsToQuery sql params (state g old) (state g new) e)
+      → Survives (state g old) (state g new) (CommitsShowing sql params (state g old))
+      → Queries {X = X} g old new (Err e)
+  failed_query old new sql params e plain err left = record {
     opened = λ clean. tt;
     was_open = λ clean is. was_back (state g old) (state g new)
         (failed_back sql params (state g old) (state g new) e (err clean)) is;
@@ -110,19 +103,6 @@ module _ {S : Type 0} (g : Ghosts S) where
         (failed_back sql params (state g old) (state g new) e (err clean)) is all;
     survives = survives_weaker (state g old) (state g new) _ _
         (λ clean trees h. ours_shows_no_commit sql params (state g old) plain trees h) left;
-  }
-
-  -- what is made of the rows of a query that changed nothing
-  pub then_made : {X Y : Type 0} (old new : Held S) (x : X) → Queries g old new (Ok x)
-      → (IsFaithful g new → (state g old).now.schema ≡ store_schema → IsUnchanged (state g old) (state g new))
-      → (r : Result Y Error) → Queries g old new r
-  then_made old new x q same (Ok y) =
-      record { opened = q.opened; was_open = q.was_open; undone = λ clean is. tt; survives = q.survives }
-  then_made old new x q same (Err e) = record {
-    opened = λ clean. tt;
-    was_open = q.was_open;
-    undone = λ clean is has all. let kept = same clean has in (kept.0.now_is, kept.0.committed_is);
-    survives = q.survives;
   }
 
 -- ---- of version 1

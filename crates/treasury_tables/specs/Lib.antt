@@ -9,3 +9,4 @@ pub mod Judging
 pub mod Order
 -- What mirrors code, for private clauses: nobody has to believe it
 pub mod Kinds
+pub mod Reading

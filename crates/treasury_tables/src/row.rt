@@ -1,6 +1,6 @@
 //! A row of one of the tables: how it is asked for, and read.
 
-ghost use Rattle.std.specs.Prelude.{◌≡◌, List, [], map, OnOk, IfOk};
+ghost use Rattle.std.specs.Prelude.{◌≡◌, ℕ, List, [], map, OnOk, IfOk};
 ghost use Rattle.sqlite.specs.declared.types.Value.{Value};
 ghost use Rattle.sqlite.specs.declared.types.Value.TheVariants.{Text as Words};
 ghost use Rattle.sqlite.specs.Order.{Row as Columns, column};
@@ -8,12 +8,13 @@ ghost use Rattle.sqlite.specs.Values.{or_null};
 ghost use Rattle.sqlite.specs.State.{IsUnchanged, Shown};
 ghost use Rattle.sqlite.specs.Given.{IsPlain};
 ghost use Rattle.sqlite.specs.Listing.{understood};
-ghost use Rattle.sqlite.specs.Held.{state};
+ghost use Rattle.sqlite.specs.Held.{Held, state};
 ghost use Rattle.treasury_tables.specs.Tables.{store_schema};
 ghost use Rattle.treasury_tables.specs.Kept.{Queries, IsFaithful};
+ghost use Rattle.treasury_tables.specs.Reading.{HasReadSoFar, GivesNext, GivesAll};
 
 use money_core::{Items, Text};
-use sqlite::{Alter, Connection, Error, Row};
+use sqlite::{Alter, Connection, Error, ErrorCode, Row, Rows};
 use std::alloc::Global;
 
 /// A row of one of the tables, read from its columns.
@@ -62,14 +63,39 @@ pub(crate) fn read_all<T: FromRow>(alloc: Global, rows: &[Row]) -> Result<Items<
     Ok(Items::from_vec(list))
 }
 
-/// The rows of a query of our tables.
-fn queried<S: Alter>(conn: &mut Connection<S>, sql: &str) -> Result<Vec<Row>, Error>
-    requires { IsPlain (understood store_schema sql.now) }
-    ensures shown { IsFaithful S.Store conn.new
-        → IfOk result (λ rows. Shown sql.now [] (state S.Store conn.old) (state S.Store conn.new) rows.items) }
-    ensures queries { Queries S.Store conn.old conn.new result }
+/// The next row of a query, read, if it gives one more.
+fn read_next<T: FromRow, S: Alter>(rows: &mut Rows<'_, S>) -> Result<Option<T>, Error>
+    ensures same_reference { rows.new.conn.ghost_name ≡ rows.old.conn.ghost_name }
+    ensures next { (sql : List ℕ) (first : Held S) (xs : List T)
+        → HasReadSoFar S.Store T.columns T.front sql first rows.old.conn.now xs
+        → GivesNext S.Store T.columns T.front sql first rows.new.conn.now xs result }
 {
-    conn.query_all(sql, &[])
+    rows.advance()?;
+    match rows.get() {
+        Some(row) => {
+            let item = T::read(row)?;
+            Ok(Some(item))
+        }
+        None => Ok(None),
+    }
+}
+
+/// The rows of a query, read one by one, so that no list of all is held beside what they are read as.
+fn read_each<T: FromRow, S: Alter>(alloc: Global, rows: &mut Rows<'_, S>) -> Result<Items<T>, Error>
+    ensures same_reference { rows.new.conn.ghost_name ≡ rows.old.conn.ghost_name }
+    ensures all { (sql : List ℕ) (first : Held S)
+        → HasReadSoFar S.Store T.columns T.front sql first rows.old.conn.now []
+        → GivesAll S.Store T.columns T.front sql first rows.new.conn.now result }
+{
+    let mut list = Vec::new(alloc);
+    // No answer has as many rows.
+    'row: for _ in 0..u64::MAX {
+        match read_next(rows)? {
+            Some(item) => list.push(item)?,
+            None => return Ok(Items::from_vec(list)),
+        }
+    }
+    Err(Error::SqliteFailure(ErrorCode::OutOfMemory))
 }
 
 /// The rows of a query of our tables, read: in the order in which the query answers them.
@@ -81,11 +107,13 @@ pub(crate) fn load<T: FromRow, S: Alter>(
     requires { IsPlain (understood store_schema sql.now) }
     ensures rows { IsFaithful S.Store conn.new
         → IfOk result
-        (λ xs. (given : List Columns) × Shown sql.now [] (state S.Store conn.old) (state S.Store conn.new) given
+        (λ xs. (state S.Store conn.old).now.schema ≡ store_schema
+        → (given : List Columns) × Shown sql.now [] (state S.Store conn.old) (state S.Store conn.new) given
         × ((ys : List T) → given ≡ map T.columns ys → xs ≡ ys)) }
     ensures shown { IsFaithful S.Store conn.new
         → IfOk result
-        (λ xs. (given : List Columns) × Shown sql.now [] (state S.Store conn.old) (state S.Store conn.new) given
+        (λ xs. (state S.Store conn.old).now.schema ≡ store_schema
+        → (given : List Columns) × Shown sql.now [] (state S.Store conn.old) (state S.Store conn.new) given
         × (map T.columns xs ≡ map T.front given)) }
     ensures same { IsFaithful S.Store conn.new
         → OnOk result
@@ -93,6 +121,6 @@ pub(crate) fn load<T: FromRow, S: Alter>(
         → IsUnchanged (state S.Store conn.old) (state S.Store conn.new)) }
     ensures queries { Queries S.Store conn.old conn.new result }
 {
-    let rows = queried(conn, sql)?;
-    read_all(alloc, &rows)
+    let mut rows = conn.query(sql, &[])?;
+    read_each(alloc, &mut rows)
 }

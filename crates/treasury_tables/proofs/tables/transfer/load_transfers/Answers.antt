@@ -11,13 +11,18 @@ load-requires g c = transfer_rows_is.2
 pub returns-clause-rows : goal.returns-clause-rows
 returns-clause-rows g c clean =
     ok_then c.load.result _ _
-    (λ xs h t up shows. h.2 t.transfers
-    (transfers_are (state g.S.Store c.args.conn.now) (state g.S.Store c.load.new.conn) t h.0 shows up.transfers h.1))
+    (λ xs h t up shows.
+    let it = h shows.schema in
+    it.2 t.transfers
+    (transfers_are (state g.S.Store c.args.conn.now) (state g.S.Store c.load.new.conn)
+    t it.0 shows up.transfers it.1))
     (c.load.ensures.rows clean)
 
 pub returns-clause-shown : goal.returns-clause-shown
 returns-clause-shown g c clean =
     ok_then c.load.result _ _
     (λ xs h has.
-    transfers_shown (state g.S.Store c.args.conn.now) (state g.S.Store c.load.new.conn) h.0 h.0 xs refl h.2 has h.1)
+    let it = h has in
+    transfers_shown (state g.S.Store c.args.conn.now) (state g.S.Store c.load.new.conn)
+    it.0 it.0 xs refl it.2 has it.1)
     (c.load.ensures.shown clean)
