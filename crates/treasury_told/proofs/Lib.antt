@@ -1,3 +1,4 @@
+pub mod EndedLemmas
 pub mod StandingLemmas
 pub mod AccountLemmas
 pub mod NumberedLemmas

@@ -1,5 +1,6 @@
 -- What a reader has to believe, in reading order
 pub mod Shown
+pub mod Ended
 pub mod Sentence
 pub mod Detail
 pub mod Standing

@@ -3,5 +3,6 @@
 #![tactic(auto)]
 
 pub mod dry_run;
+pub mod ended;
 pub mod explain;
 pub mod notes;
