@@ -9,7 +9,7 @@ use Rattle.treasury_told.specs.Dated.{is_dated_line, lines_behind, from_posting}
 use Rattle.treasury_told.specs.OddAmount.{is_inner, is_posting_line}
 use Rattle.treasury_told.proofs.BelowLemmas.{Line}
 
--- those of such lines that stand on a posting or behind one, where the line before them may
+-- those of such lines that stand on a posting or after one, where the line before them may
 abbrev pub posted_part : Bool → List Line → List Line
 posted_part true ls = ls
 posted_part false ls = from_posting ls
@@ -75,7 +75,7 @@ date_inside on header l ls more split is inner =
     ∙ ap (λ (t : Bool). find is_dated_line (posted_part on (cond t (l ∷ lines_behind header more) []))) inner
     ∙ ap (find is_dated_line) (posted_next on l (lines_behind header more))
 
--- a line with the tag, on or behind a posting, and another one
+-- a line with the tag, on or after a posting, and another one
 pub date_here : (on now : Bool) (header : ℕ) (l : Line) (ls more : List Line) → ls ≡ l ∷ more
     → nat_lt header l.0 ≡ true → is_inner (kind_of l.1) ≡ true → now ≡ (on || is_posting_line l.1)
     → (now && is_dated_line l) ≡ true → date_left on header ls ≡ Some l

@@ -57,7 +57,7 @@ days_none on e (n ∷ rest) = ap (λ (o : Option ℕ). option_or o (place_on_day
 abbrev among : ℤ → List ℤ → Bool
 among n days = list_any (int_eq n) days
 
-days_alike : (on others : ℤ → Option ℕ) (days : List ℤ) → ((n : ℤ) → among n days ≡ true → on n ≡ others n)
+pub days_alike : (on others : ℤ → Option ℕ) (days : List ℤ) → ((n : ℤ) → among n days ≡ true → on n ≡ others n)
     → place_on_days on days ≡ place_on_days others days
 days_alike on others [] e = refl
 days_alike on others (n ∷ rest) e =

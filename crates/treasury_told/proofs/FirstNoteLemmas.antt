@@ -1,9 +1,8 @@
 -- the notes with which those of an import begin
 use Rattle.std.proofs.Common.{◌≡◌, ◌∙◌, ℕ, zero, suc, Bool, true, false, ◌||◌, List, [], ◌∷◌, ◌++◌, length, drop}
-use Rattle.std.proofs.Common.{refl, ap, sym, arith, append_assoc, append-nil, Option, Some, None}
-use Rattle.std.specs.Prelude.{Result, Ok, Err, OnOk, is_some}
+use Rattle.std.proofs.Common.{refl, ap, arith, Option, Some, None}
+use Rattle.std.specs.Prelude.{is_some}
 use Rattle.std.specs.List.{AllByRecursion}
-use Rattle.money_core.proofs.Appends.{appended_thrice}
 use Rattle.money_core.specs.declared.style.Style.{Style}
 use Rattle.journal_format.specs.declared.txn.Located.{Located}
 use Rattle.treasury_state.specs.declared.record.Record.{Record}
@@ -15,44 +14,13 @@ use Rattle.treasury_told.specs.OddAmount.{odd_amounts}
 use Rattle.treasury_told.specs.OddNotes.{odd_notes}
 use Rattle.treasury_told.specs.FarDays.{span_of, far_from, far_in, far_if_any, far_notes}
 use Rattle.treasury_told.specs.OtherBranch.{other_note}
-use Rattle.treasury_told.specs.FirstNotes.{first_notes, BeginsWithNotes}
+use Rattle.treasury_told.specs.FirstNotes.{first_notes}
 use Rattle.treasury_told.proofs.OddNoteLemmas.{same_notes, nothing_new}
 
 pub all_drop : {X : Type 0} (P : X → Type 0) (xs : List X) (n : ℕ) → AllByRecursion P xs → AllByRecursion P (drop n xs)
 all_drop P xs zero h = h
 all_drop P [] (suc n) h = h
 all_drop P (x ∷ xs) (suc n) h = all_drop P xs n h.1
-
--- ---- notes that were appended
-pub none_begin : (notes old new : List ℕ) → notes ≡ [] → new ≡ old → BeginsWithNotes notes old new
-none_begin notes old new none e = record {
-  rest = [];
-  text = e ∙ sym (append-nil old) ∙ ap (λ (xs : List ℕ). old ++ (xs ++ [])) (sym none);
-}
-
-two_begin : (far odd further old one two new : List ℕ) → one ≡ old ++ far → two ≡ one ++ odd → new ≡ two ++ further
-    → BeginsWithNotes (far ++ odd) old new
-two_begin far odd further old one two new e f g = record {
-  rest = further;
-  text = appended_thrice old one two new far odd further e f g
-      ∙ ap (λ (xs : List ℕ). old ++ xs) (sym (append_assoc far odd further));
-}
-
--- whatever came of the further ones
-pub begin_with_two : {T E : Type 0} (r : Result T E) (far odd further old one two new : List ℕ) → one ≡ old ++ far
-    → two ≡ one ++ odd → new ≡ two ++ further → OnOk r (BeginsWithNotes (far ++ odd) old new)
-begin_with_two (Ok x) far odd further old one two new e f g = two_begin far odd further old one two new e f g
-begin_with_two (Err e) far odd further old one two new f g h = tt
-
-pub other_begins : (other notes old now new : List ℕ) → now ≡ old ++ other → BeginsWithNotes notes now new
-    → BeginsWithNotes (other ++ notes) old new
-other_begins other notes old now new e h = record {
-  rest = h.rest;
-  text = h.text
-      ∙ ap (λ (xs : List ℕ). xs ++ (notes ++ h.rest)) e
-      ∙ append_assoc old other (notes ++ h.rest)
-      ∙ ap (λ (xs : List ℕ). old ++ xs) (sym (append_assoc other notes h.rest));
-}
 
 -- ---- where nothing is far or odd, and where the lines matter
 pub none_first : (styles : List Style) (source branch text : List ℕ) (new : List Record) (lines : List ℕ)

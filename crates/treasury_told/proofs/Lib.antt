@@ -9,6 +9,8 @@ pub mod BroughtLemmas
 pub mod DatedLemmas
 pub mod OddLemmas
 pub mod HeadLemmas
+pub mod OpenLemmas
+pub mod AmongLemmas
 pub mod BranchLemmas
 pub mod OddValues
 pub mod PieceLemmas
@@ -21,11 +23,16 @@ pub mod RefusedLemmas
 pub mod PassingLemmas
 pub mod AddedLemmas
 pub mod MissingLemmas
+pub mod HeadingLemmas
 pub mod AgainLemmas
 pub mod EditedLemmas
 pub mod OddNoteLemmas
 pub mod OtherBranchLemmas
 pub mod FirstNoteLemmas
+pub mod ImportNoteLemmas
+pub mod ImportTestLemmas
+pub mod DryRunLemmas
+pub mod TakenLemmas
 pub mod OpenYearLemmas
 pub mod NamedAccountLemmas
 pub mod SampleLemmas

@@ -39,7 +39,7 @@ use Rattle.treasury_told.proofs.RefusedLemmas.{entry_there}
 abbrev day_of : Standing → Day
 day_of s = s.txn.day
 
-days_kept : (styles : List Style) (span : Option Span) (before : List Txn) (xs : List Standing)
+pub days_kept : (styles : List Style) (span : Option Span) (before : List Txn) (xs : List Standing)
     → unbalanced styles (located_of xs) ≡ None
     → fold with_day span (map day_of xs) ≡ span_from span (records_from styles before (located_of xs))
 days_kept styles span before [] even = refl
@@ -111,7 +111,7 @@ at_none_before p k n (r ∷ rs) h =
     by_test true e again = e
     by_test false e again = again
 
-unheld_at : (rs : List Record) (i : ℕ) (r : Record) (m : List ℕ) → slice_get rs i ≡ Some r → held rs m ≡ None
+pub unheld_at : (rs : List Record) (i : ℕ) (r : Record) (m : List ℕ) → slice_get rs i ≡ Some r → held rs m ≡ None
     → bytes_eq r.mark m ≡ false
 unheld_at [] i r m e none = absurd cc
 unheld_at (x ∷ xs) zero r m e none =
@@ -165,7 +165,7 @@ by_place place (Some i) p = refl
 by_place place None (Some j) = refl
 by_place place None None = refl
 
-any_repeats : (styles : List Style) (records : List Record) (before rest : List Standing) (place : ℕ) (r : Record)
+pub any_repeats : (styles : List Style) (records : List Record) (before rest : List Standing) (place : ℕ) (r : Record)
     → AreStanding styles records before rest → HaveOwnMarks records → slice_get records place ≡ Some r
     → list_any (repeats place) rest ≡ list_any (goes_by r.mark) rest
 any_repeats styles records before [] place r standing own there = refl
@@ -200,7 +200,8 @@ read_tells styles records text new list found span repeated standing only h own 
     ∙ ap (λ (xs : List Located). passes_over (records_in_file styles xs) r) same
 
 -- ---- where all are new, none has a mark that is held
-held_more : (rs : List Record) (x : Record) (m : List ℕ) → is_held rs m ≡ true → is_held (rs ++ x ∷ []) m ≡ true
+pub held_more : (rs : List Record) (x : Record) (m : List ℕ) → is_held rs m ≡ true
+    → is_held (rs ++ x ∷ []) m ≡ true
 held_more rs x m e =
     list_any-append (has_mark m) rs (x ∷ [])
     ∙ ap (λ (t : Bool). t || list_any (has_mark m) (x ∷ [])) e
@@ -254,7 +255,7 @@ recorded_each styles before (x ∷ xs) even =
     by_entry e legs again =
         ap (λ (r : Result Entry Cause). length (recorded x.txn m r ++ more)) legs ∙ ap suc again
 
-is_there : (rs : List Record) (i : ℕ) (r : Record) → slice_get rs i ≡ Some r → is_held rs r.mark ≡ true
+pub is_there : (rs : List Record) (i : ℕ) (r : Record) → slice_get rs i ≡ Some r → is_held rs r.mark ≡ true
 is_there [] i r e = absurd cc
 is_there (x ∷ xs) zero r e =
     let same : x ≡ r = cc in

@@ -6,7 +6,7 @@ use Rattle.money_core.specs.declared.day.Day.{Day}
 use Rattle.journal_lines.specs.Date.{is_in_calendar, printed_date}
 use Rattle.treasury_told.specs.OpenYear.{is_end_of_year}
 
--- the first of those that are left does not pass the test: so one of all passes it as one behind it does
+-- the first of those that are left does not pass the test: so one of all passes it as one after it does
 pub passed_by_none : {X : Type 0} (test : X → Bool) (x : X) (left more : List X) (all : Bool) → left ≡ x ∷ more
     → test x ≡ false → list_any test left ≡ all → list_any test more ≡ all
 passed_by_none test x left more all e f h =

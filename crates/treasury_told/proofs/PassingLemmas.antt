@@ -227,7 +227,7 @@ unknown_moves n u (x ∷ xs) h all = by_test (nat_eq x.unit.0 u.0) refl (unknown
     by_test true e more = absurd (let same : x.unit.0 ≡ u.0 = grind (arith, nat_tests) in omega (arith, all.0, h))
     by_test false e more = omega (arith, more)
 
-all_taken : {X : Type 0} (P : X → Type 0) (i : ℕ) (xs : List X) → AllByRecursion P xs → AllByRecursion P (take i xs)
+pub all_taken : {X : Type 0} (P : X → Type 0) (i : ℕ) (xs : List X) → AllByRecursion P xs → AllByRecursion P (take i xs)
 all_taken P zero xs h = tt
 all_taken P (suc i) [] h = h
 all_taken P (suc i) (x ∷ xs) h = (h.0, all_taken P i xs h.1)

@@ -82,7 +82,7 @@ any_at : {X : Type 0} (x : X) (o : Option X) (u t : Bool) → u ≡ is_some o �
 any_at x o u true e = refl
 any_at x o u false e = e
 
-any_find : {X : Type 0} (p : X → Bool) (xs : List X) → list_any p xs ≡ is_some (find p xs)
+pub any_find : {X : Type 0} (p : X → Bool) (xs : List X) → list_any p xs ≡ is_some (find p xs)
 any_find p [] = refl
 any_find p (x ∷ xs) = any_at x (find p xs) (list_any p xs) (p x) (any_find p xs)
 

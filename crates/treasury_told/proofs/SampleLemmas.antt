@@ -110,6 +110,6 @@ unfolding unquoted mark_before_three
 no_marks_left q [] e = refl
 no_marks_left q (b ∷ rest) e = absurd (omega (arith, e))
 
--- the byte at a place, and those behind it
+-- the byte at a place, and those after it
 pub byte_and_rest : (text : List ℕ) (i : ℕ) → i < length text → drop i text ≡ get_or text i 0 ∷ drop (i + 1) text
 byte_and_rest text i h = drop-cons text i 0 h ∙ ap (λ (j : ℕ). get_or text i 0 ∷ drop j text) (sym (add-one i))

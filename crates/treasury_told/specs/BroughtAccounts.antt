@@ -36,7 +36,7 @@ new_ones is_new xs = filter (λ (x : ℕ × List ℕ). is_new x.1) (first_ones x
 abbrev pub first_account_text : List ℕ → List ℕ → ℕ × List ℕ → List ℕ
 first_account_text source branch x = codes "note: " ++ origin_text source x.0 ++ unused_account_text x.1 branch
 
--- a further one behind what joins it to the line, and all of them
+-- a further one after what joins it to the line, and all of them
 abbrev pub further_account_text : List ℕ → ℕ × List ℕ → List ℕ
 further_account_text before x = before ++ shown_text x.1 ++ codes " (line " ++ decimal x.0 ++ codes ")"
 

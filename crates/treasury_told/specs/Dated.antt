@@ -28,7 +28,7 @@ has_date_if_any (Some comment) = has_date comment
 abbrev pub is_dated_line : ℕ × List ℕ → Bool
 is_dated_line l = has_date_if_any (comment_of l.1)
 
--- the lines behind that of a header, as far as they are indented
+-- the lines after that of a header, as far as they are indented
 abbrev pub lines_behind : ℕ → List (ℕ × List ℕ) → List (ℕ × List ℕ)
 lines_behind header ls =
     take_while (λ (l : ℕ × List ℕ). is_inner (kind_of l.1)) (filter (λ (l : ℕ × List ℕ). nat_lt header l.0) ls)

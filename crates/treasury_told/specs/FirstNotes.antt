@@ -1,9 +1,7 @@
 -- The notes with which those of an import begin, in order (own rule; docs/RULES.md, "Notes").
-use Rattle.std.specs.Prelude.{◌≡◌, ℕ, List, ◌++◌, take, drop}
-use Rattle.journal_format.specs.declared.txn.Located.{Located}
+use Rattle.std.specs.Prelude.{◌≡◌, ℕ, List, ◌++◌}
 use Rattle.treasury_state.specs.declared.record.Record.{Record}
-use Rattle.treasury_state.specs.Federation.{Federation, records_of}
-use Rattle.treasury_told.specs.Added.{added_lines}
+use Rattle.treasury_state.specs.Federation.{Federation}
 use Rattle.treasury_told.specs.OddNotes.{odd_notes}
 use Rattle.treasury_told.specs.FarDays.{far_notes}
 use Rattle.treasury_told.specs.OtherBranch.{other_note}
@@ -13,12 +11,6 @@ use Rattle.treasury_told.specs.OtherBranch.{other_note}
 unfoldable pub first_notes : Federation → List ℕ → List ℕ → List ℕ → List Record → List Record → List ℕ → List ℕ
 first_notes f branch source text held new lines =
     other_note f branch new ++ (far_notes source branch held new lines ++ odd_notes f.styles source text lines)
-
--- those of an import into the branch of that name, which held so many records before, and has taken these transactions
-abbrev pub notes_first : Federation → List ℕ → List ℕ → List ℕ → ℕ → List Located → List ℕ
-notes_first f name source text count list =
-    let held = take count (records_of f name) in
-    first_notes f name source text held (drop count (records_of f name)) (added_lines f.styles held list)
 
 -- what is appended begins with these notes
 pub record BeginsWithNotes (notes old new : List ℕ) : Type 0 where

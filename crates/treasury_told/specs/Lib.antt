@@ -28,6 +28,7 @@ pub mod EditedEntries
 pub mod Candidates
 pub mod Missing
 pub mod EditedIndex
+pub mod Imported
 pub mod Edited
 pub mod NewAccount
 pub mod BroughtAccounts
@@ -37,6 +38,10 @@ pub mod FarDays
 pub mod OpenYear
 pub mod SampleNote
 pub mod RequestNotes
+pub mod Headings
+pub mod OpenText
 pub mod OtherBranch
 pub mod FirstNotes
+pub mod ImportNotes
+pub mod DryRun
 pub mod RequestFaults

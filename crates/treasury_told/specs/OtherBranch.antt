@@ -44,7 +44,7 @@ abbrev pub more_holding : Federation → List ℕ → List Record → Option (Li
 more_holding f branch new most name =
     if bytes_eq name branch then most else with_more most (name, held_count f name new)
 
--- the same of these branches, behind those before them
+-- the same of these branches, after those before them
 abbrev pub most_from : Federation → List ℕ → List Record → Option (List ℕ × ℕ) → List Branch → Option (List ℕ × ℕ)
 most_from f branch new most [] = most
 most_from f branch new most (b ∷ bs) = most_from f branch new (more_holding f branch new most b.name) bs

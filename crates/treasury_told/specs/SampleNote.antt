@@ -23,7 +23,7 @@ marks_and_digits inside text = filter (λ b. is_point_or_comma b || is_ascii_dig
 abbrev pub are_digits : ℕ → List ℕ → Bool
 are_digits n bs = (length bs == n) && list_all is_ascii_digit bs
 
--- the first mark, if just three digits and no mark stand behind it
+-- the first mark, if just three digits and no mark stand after it
 abbrev pub if_three : ℕ → List ℕ → Option ℕ
 if_three mark behind = if are_digits 3 behind then Some mark else None
 

@@ -15,16 +15,21 @@ mod other_branch;
 pub(crate) mod places;
 pub(crate) mod samples;
 
-ghost use Rattle.std.specs.Prelude.{◌≡◌, ◌++◌, ℕ, List, take, drop, codes, OnOk, Some, None, IfSome};
+ghost use Rattle.std.specs.Prelude.{◌≡◌, ◌++◌, ℕ, true, List, take, drop, codes, OnOk, Option, Some, None, IfSome};
 ghost use Rattle.std.specs.Option.{option_map};
 ghost use Rattle.std.specs.Result.{IsOkUnless};
+ghost use Rattle.money_core.specs.declared.day.Day.{Day as When};
 ghost use Rattle.journal_format.specs.declared.txn.Located.{Located};
-ghost use Rattle.treasury_state.specs.Federation.{records_of, entries};
+ghost use Rattle.treasury_state.specs.Federation.{has_branch, records_of, entries};
+ghost use Rattle.treasury_state.specs.Mark.{HaveOwnMarks};
 ghost use Rattle.treasury_state.specs.Seen.{branch_of};
 ghost use Rattle.treasury_told.specs.declared.notes.BranchBefore.{BranchBefore as HeldOfBranch};
-ghost use Rattle.treasury_told.specs.Added.{added_lines, IsTaken, IsEntered};
+ghost use Rattle.treasury_told.specs.Added.{IsTaken, IsNoneRefused, IsEntered};
 ghost use Rattle.treasury_told.specs.OtherBranch.{AreAllPrintable};
-ghost use Rattle.treasury_told.specs.FirstNotes.{first_notes, notes_first, BeginsWithNotes};
+ghost use Rattle.treasury_told.specs.Imported.{imported};
+ghost use Rattle.treasury_told.specs.FirstNotes.{BeginsWithNotes};
+ghost use Rattle.treasury_told.specs.ImportNotes.{is_grown, import_first, import_notes, entered_import, entered_notes};
+ghost use Rattle.treasury_told.specs.ImportNotes.{IsEnteredAhead, import_ahead};
 ghost use Rattle.treasury_told.specs.NamedAccount.{named_account_if, unknown_notes};
 ghost use Rattle.treasury_told.specs.Lock.{branch_asked};
 ghost use Rattle.treasury_told.specs.Failure.{journal_asked};
@@ -34,7 +39,7 @@ ghost use Rattle.treasury_told.specs.RequestNotes.{closing_notes, late_if, odd_i
 ghost use Rattle.treasury_told.specs.RequestNotes.{added_notes, notes_on, notes_if_there, commodity_notes};
 ghost use Rattle.treasury_told.specs.RequestNotes.{request_notes, notes_ahead};
 
-use crate::explain::standing::{branch_named, records_of};
+use crate::explain::standing::records_of;
 use crate::explain::transfers::transfer_of;
 use crate::notes::accounts::{find_unknown, push_account, push_unknown};
 use crate::notes::amounts::push_odd_amount;
@@ -396,7 +401,7 @@ fn note_on<L: Ledger>(
 }
 
 /// The first records, so many, and those after them.
-fn parted(records: &[Record], count: usize) -> (&[Record], &[Record])
+pub(crate) fn parted(records: &[Record], count: usize) -> (&[Record], &[Record])
     ensures first { result.0.now ≡ take count records.now }
     ensures rest { result.1.now ≡ drop count records.now }
 {
@@ -420,10 +425,18 @@ fn push_import<L: Ledger>(
     new: &[Record],
     out: &mut Vec<u8>,
 ) -> Result<(), Cause>
-    ensures first { (list : List Located) → AreAllPrintable state.now.styles new.now
-        → IsTaken state.now.styles held.now journal.now new.now list → OnOk result
-        (BeginsWithNotes (first_notes state.now name.now source.now journal.now held.now new.now
-        (added_lines state.now.styles held.now list)) out.old.items out.new.items) }
+    ensures first { (list : List Located) → AreAllPrintable state.now.styles held.now
+        → AreAllPrintable state.now.styles new.now → IsTaken state.now.styles held.now journal.now new.now list
+        → OnOk result (BeginsWithNotes (import_first state.now
+        (imported source.now journal.now name.now held.now new.now before.is_dry_run) list)
+        out.old.items out.new.items) }
+    ensures all { (list : List Located) (lock : Option When) → AreAllPrintable state.now.styles held.now
+        → AreAllPrintable state.now.styles new.now → HaveOwnMarks held.now
+        → IsTaken state.now.styles held.now journal.now new.now list
+        → IsNoneRefused state.now.styles lock held.now list → OnOk result (out.new.items
+        ≡ out.old.items ++ import_notes state.now
+        (imported source.now journal.now name.now held.now new.now before.is_dry_run)
+        (is_grown before (L.book branch.now.ledger)) list) }
 {
     let import = Import {
         source,
@@ -449,11 +462,17 @@ fn push_import_notes<L: Ledger>(
     ensures first { (list : List Located)
         → IsTaken state.now.styles (take before.entries (records_of state.now name.now)) journal.now
         (drop before.entries (records_of state.now name.now)) list → OnOk result
-        (BeginsWithNotes (notes_first state.now name.now source.now journal.now before.entries list)
+        (BeginsWithNotes (import_first state.now (entered_import state.now name.now source.now journal.now before) list)
         out.old.items out.new.items) }
+    ensures entered { (list : List Located) (lock : Option When)
+        → IsTaken state.now.styles (take before.entries (records_of state.now name.now)) journal.now
+        (drop before.entries (records_of state.now name.now)) list
+        → IsNoneRefused state.now.styles lock (take before.entries (records_of state.now name.now)) list
+        → OnOk result (out.new.items
+        ≡ out.old.items ++ entered_notes state.now name.now source.now journal.now before list) }
 {
     state.is_good();
-    match branch_named(state, name) {
+    match find_branch(state, name) {
         Some(branch) => {
             let (held, new) = parted(records_of(state, name), before.entries);
             push_import(
@@ -522,26 +541,33 @@ fn push_others_ahead<L: Ledger>(
 fn push_import_ahead<L: Ledger>(
     alloc: Global,
     state: &State<L>,
-    request: &Request,
     name: &str,
     journal: &[u8],
     source: &str,
     new: &[Record],
     out: &mut Vec<u8>,
-) -> Result<(), Cause> {
-    let (Some(branch), Some(held)) = (branch_of(state, request), held_of(state, request)) else {
-        return Ok(());
-    };
-    let before = BranchBefore {
-        entries: held.entries,
-        accounts: held.accounts,
-        locked: held.locked,
-        is_dry_run: true,
-    };
-    let records = branch.records.items();
-    push_import(
-        alloc, state, branch, name, journal, source, before, records, new, out,
-    )
+) -> Result<(), Cause>
+    ensures entered { (list : List Located) (lock : Option When) → has_branch state.now name.now ≡ true
+        → IsTaken state.now.styles (records_of state.now name.now) journal.now new.now list
+        → IsNoneRefused state.now.styles lock (records_of state.now name.now) list → OnOk result
+        (out.new.items ≡ out.old.items ++ import_ahead state.now name.now source.now journal.now new.now list) }
+{
+    state.is_good();
+    match find_branch(state, name) {
+        Some(branch) => {
+            let records = branch.records.items();
+            let before = BranchBefore {
+                entries: records.len(),
+                accounts: branch.ledger.accounts().len(),
+                locked: branch.locked,
+                is_dry_run: true,
+            };
+            push_import(
+                alloc, state, branch, name, journal, source, before, records, new, out,
+            )
+        }
+        None => Ok(()),
+    }
 }
 
 /// Appends the notes of a dry run of a request that would add these records to its branch.
@@ -553,13 +579,17 @@ pub(crate) fn push_notes_ahead<L: Ledger>(
     new: &[Record],
     out: &mut Vec<u8>,
 ) -> Result<(), Cause>
+    ensures entered { (name journal : List ℕ) (list : List Located) (lock : Option When)
+        → IsEnteredAhead state.now request.now name journal new.now list
+        → IsNoneRefused state.now.styles lock (records_of state.now name) list → OnOk result
+        (out.new.items ≡ out.old.items ++ import_ahead state.now name source.now journal new.now list) }
     ensures others { journal_asked request.now ≡ None → OnOk result
         (out.new.items ≡ out.old.items ++ notes_ahead state.now request.now new.now) }
 {
     match request {
         Request::Import { branch, journal } => {
             let (name, journal) = (branch.as_str(), journal.as_bytes());
-            push_import_ahead(alloc, state, request, name, journal, source, new, out)
+            push_import_ahead(alloc, state, name, journal, source, new, out)
         }
         _ => push_others_ahead(alloc, state, request, new, out),
     }
@@ -576,8 +606,13 @@ fn push_answered<L: Ledger>(
 ) -> Result<(), Cause>
     ensures first { (name journal : List ℕ) (list : List Located)
         → IsEntered state.now request.now name journal before.entries list → OnOk result
-        (BeginsWithNotes (notes_first state.now name source.now journal before.entries list)
+        (BeginsWithNotes (import_first state.now (entered_import state.now name source.now journal before) list)
         out.old.items out.new.items) }
+    ensures entered { (name journal : List ℕ) (list : List Located) (lock : Option When)
+        → IsEntered state.now request.now name journal before.entries list
+        → IsNoneRefused state.now.styles lock (take before.entries (records_of state.now name)) list
+        → OnOk result (out.new.items
+        ≡ out.old.items ++ entered_notes state.now name source.now journal before list) }
     ensures others { journal_asked request.now ≡ None → OnOk result (out.new.items ≡ out.old.items
         ++ notes_if_there state.now request.now before (branch_in state.now (branch_asked request.now))) }
 {
@@ -608,8 +643,9 @@ fn push_sample<L: Ledger>(
     }
 }
 
-/// Appends the notes of a request that was answered, and no refusal.
-fn push_notes<L: Ledger>(
+/// Appends the notes of a request that was answered, and no refusal. The state is the one after the request, and
+/// `before` is what was held before it. `source` names the journal. 40: of what is told, a part may be appended.
+pub fn push_notes<L: Ledger>(
     alloc: Global,
     state: &State<L>,
     request: &Request,
@@ -620,8 +656,14 @@ fn push_notes<L: Ledger>(
     // Those of an import begin with those of another branch, of far days, and of odd amounts.
     ensures first { (held : HeldOfBranch) (name journal : List ℕ) (list : List Located) → before.branch ≡ Some held
         → IsEntered state.now request.now name journal held.entries list → OnOk result
-        (BeginsWithNotes (notes_first state.now name source.now journal held.entries list)
+        (BeginsWithNotes (import_first state.now (entered_import state.now name source.now journal held) list)
         out.old.items out.new.items) }
+    // They are all told where nothing of the journal was refused.
+    ensures entered { (held : HeldOfBranch) (name journal : List ℕ) (list : List Located) (lock : Option When)
+        → before.branch ≡ Some held → IsEntered state.now request.now name journal held.entries list
+        → IsNoneRefused state.now.styles lock (take held.entries (records_of state.now name)) list
+        → OnOk result (out.new.items
+        ≡ out.old.items ++ entered_notes state.now name source.now journal held list) }
     // Those of any other request are all told.
     ensures others { journal_asked request.now ≡ None → OnOk result
         (out.new.items ≡ out.old.items ++ request_notes state.now request.now before) }
@@ -638,20 +680,4 @@ fn push_notes<L: Ledger>(
             None => Ok(()),
         },
     }
-}
-
-/// The notes of a request that was answered, and no refusal, as far as there is memory for them. `source` names the
-/// journal.
-pub fn notes_of<L: Ledger>(
-    alloc: Global,
-    state: Option<&State<L>>,
-    request: &Request,
-    source: &str,
-    before: Option<HeldBefore>,
-) -> Vec<u8> {
-    let mut out = Vec::new(alloc);
-    if let (Some(state), Some(before)) = (state, before) {
-        let _ = push_notes(alloc, state, request, source, before, &mut out);
-    }
-    out
 }

@@ -249,7 +249,7 @@ fn find_posted<'a>(
     Ok(found)
 }
 
-/// Appends an account that is not the first, behind what joins it to the line.
+/// Appends an account that is not the first, after what joins it to the line.
 fn push_further(before: &[u8], posted: &PostedAt<'_>, out: &mut Vec<u8>) -> Result<(), Cause>
     ensures value { OnOk result (out.new.items
         ≡ out.old.items ++ further_account_text before.now (posted_view posted.now)) }

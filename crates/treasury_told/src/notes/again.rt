@@ -14,6 +14,7 @@ ghost use Rattle.treasury_told.specs.declared.notes.again.DayLegs.{DayLegs as Ke
 ghost use Rattle.treasury_told.specs.Again.{is_marked, same_day_legs, may_be_same, again_with, again_on, again_of};
 ghost use Rattle.treasury_told.specs.Edited.{if_edited, again_note, again_text};
 ghost use Rattle.treasury_told.specs.Failure.{has_legs_of, legs_place};
+ghost use Rattle.treasury_told.specs.Imported.{import_view};
 ghost use Rattle.treasury_told.specs.Index.{is_day_among, is_on, kept_place, leg_writes, key_writes, key_equiv};
 ghost use Rattle.treasury_told.specs.Index.{key_alike};
 ghost use Rattle.treasury_told.specs.Listed.{listed};
@@ -293,7 +294,7 @@ fn push_note(
     out: &mut Vec<u8>,
 ) -> Result<(), Cause>
     ensures value { OnOk result (out.new.items
-        ≡ out.old.items ++ again_note import.now line new.now number held.now) }
+        ≡ out.old.items ++ again_note (import_view import.now) line new.now number held.now) }
     ensures memory { IsOkUnless result Cause.OutOfMemory }
 {
     out.extend_from_slice(b"note: ")?;
@@ -324,7 +325,7 @@ fn push_one(
     again: Again,
     out: &mut Vec<u8>,
 ) -> Result<(), Cause>
-    ensures value { OnOk result (out.new.items ≡ out.old.items ++ again_text import.now lines.now again) }
+    ensures value { OnOk result (out.new.items ≡ out.old.items ++ again_text (import_view import.now) lines.now again) }
     ensures memory { IsOkUnless result Cause.OutOfMemory }
 {
     let Some(line) = lines.get(again.new) else {
@@ -358,7 +359,7 @@ pub fn push_again(
     out: &mut Vec<u8>,
 ) -> Result<(), Cause>
     ensures value { OnOk result (out.new.items
-        ≡ out.old.items ++ listed MOST (again_text import.now lines.now) found.now) }
+        ≡ out.old.items ++ listed MOST (again_text (import_view import.now) lines.now) found.now) }
     ensures memory { IsOkUnless result Cause.OutOfMemory }
 {
     let first = &found[..found.len().min(MOST)];

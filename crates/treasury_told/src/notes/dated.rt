@@ -74,14 +74,14 @@ fn is_dated_line(line: &[u8]) -> bool
     }
 }
 
-/// Whether a line is a posting of a transaction or stands behind one, as the line before it may.
+/// Whether a line is a posting of a transaction or stands after one, as the line before it may.
 fn is_from_posting(is: bool, line: &[u8]) -> bool
     ensures { result ≡ (is || is_posting_line line.now) }
 {
     is || is_posting(line)
 }
 
-/// Whether a line has such a comment, on a posting or behind one.
+/// Whether a line has such a comment, on a posting or after one.
 fn is_dated_on(is_on_posting: bool, line: &[u8]) -> bool
     ensures { result ≡ (is_on_posting && has_date_if_any (comment_of line.now)) }
 {

@@ -17,6 +17,7 @@ ghost use Rattle.treasury_told.specs.Edited.{likeness_text, edited_note, edited_
 ghost use Rattle.treasury_told.specs.EditedEntries.{with_other_amounts, place_before, edited_with, edited_from};
 ghost use Rattle.treasury_told.specs.EditedEntries.{edited_of};
 ghost use Rattle.treasury_told.specs.EditedIndex.{KeepsFirst, put_before, put_missing, place_among, is_again_at};
+ghost use Rattle.treasury_told.specs.Imported.{import_view};
 ghost use Rattle.treasury_told.specs.Listed.{listed};
 ghost use Rattle.treasury_told.specs.Missing.{is_passed_over};
 ghost use Rattle.treasury_told.specs.Near.{is_soon_after, is_near};
@@ -362,7 +363,7 @@ fn push_note(
     out: &mut Vec<u8>,
 ) -> Result<(), Cause>
     ensures value { OnOk result (out.new.items
-        ≡ out.old.items ++ edited_note import.now line has_amounts new.now number held.now) }
+        ≡ out.old.items ++ edited_note (import_view import.now) line has_amounts new.now number held.now) }
     ensures memory { IsOkUnless result Cause.OutOfMemory }
 {
     out.extend_from_slice(b"note: ")?;
@@ -385,7 +386,8 @@ fn push_one(
     edited: Edited,
     out: &mut Vec<u8>,
 ) -> Result<(), Cause>
-    ensures value { OnOk result (out.new.items ≡ out.old.items ++ edited_text import.now lines.now edited) }
+    ensures value { OnOk result (out.new.items
+        ≡ out.old.items ++ edited_text (import_view import.now) lines.now edited) }
     ensures memory { IsOkUnless result Cause.OutOfMemory }
 {
     let Some(line) = lines.get(edited.new) else {
@@ -420,7 +422,7 @@ pub fn push_edited(
     out: &mut Vec<u8>,
 ) -> Result<(), Cause>
     ensures value { OnOk result (out.new.items
-        ≡ out.old.items ++ listed MOST (edited_text import.now lines.now) found.now) }
+        ≡ out.old.items ++ listed MOST (edited_text (import_view import.now) lines.now) found.now) }
     ensures memory { IsOkUnless result Cause.OutOfMemory }
 {
     let first = &found[..found.len().min(MOST)];

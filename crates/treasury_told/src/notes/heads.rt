@@ -5,7 +5,8 @@ ghost use Rattle.std.specs.Result.{IsOkUnless};
 ghost use Rattle.money_core.specs.declared.style.Style.{Style};
 ghost use Rattle.journal_format.specs.declared.txn.Located.{Located};
 ghost use Rattle.journal_format.specs.Pieces.{Reads};
-ghost use Rattle.treasury_told.specs.Heads.{is_head, is_block, heads_in};
+ghost use Rattle.treasury_told.specs.Heads.{is_head, is_block, heads_in, line_with_number};
+ghost use Rattle.treasury_told.specs.Headings.{AreHeadsOf};
 ghost use Rattle.treasury_told.specs.declared.notes.heads.HeaderLine.{HeaderLine as Head};
 
 use journal_lines::{LineKind, Lines, is_block_end, kind};
@@ -53,8 +54,8 @@ fn is_block(kind: LineKind) -> bool
 
 /// Puts a header line after others.
 fn put_head<'a>(found: &mut Vec<HeaderLine<'a>>, number: usize, text: &'a [u8]) -> Result<(), Cause>
-    ensures value { OnOk result (map (λ (h : Head). h.number) found.new.items
-        ≡ map (λ (h : Head). h.number) found.old.items ++ number ∷ []) }
+    ensures value { OnOk result (map line_with_number found.new.items
+        ≡ map line_with_number found.old.items ++ (number, text.now) ∷ []) }
     ensures memory { IsOkUnless result Cause.OutOfMemory }
 {
     found.push(HeaderLine { number, text })?;
@@ -63,12 +64,12 @@ fn put_head<'a>(found: &mut Vec<HeaderLine<'a>>, number: usize, text: &'a [u8]) 
 
 /// The header lines of a text, in order.
 pub fn header_lines<'a>(alloc: Global, text: &'a [u8]) -> Result<Vec<HeaderLine<'a>>, Cause>
-    ensures value { IfOk result (λ found. map (λ (h : Head). h.number) found.items ≡ heads_in text.now) }
+    ensures value { IfOk result (λ found. map line_with_number found.items ≡ heads_in text.now) }
     ensures memory { IsOkUnless result Cause.OutOfMemory }
 
-    // Of a journal they are the lines of its transactions.
+    // Of a journal they are those of its transactions.
     ensures reads { (styles : List Style) (list : List Located) → Reads styles text.now list
-        → heads_in text.now ≡ map (λ (x : Located). x.line) list }
+        → AreHeadsOf (heads_in text.now) list }
 {
     let mut found = Vec::new(alloc);
     let mut in_block = false;

@@ -1,14 +1,28 @@
 //! The notes of an import: of what it added to the book of a branch, or would add.
 
-ghost use Rattle.std.specs.Prelude.{◌≡◌, ◌++◌, ◌||◌, ℕ, List, [], false, None, is_some, IfOk, OnOk, IsTrue};
+ghost use Rattle.std.specs.Prelude.{◌≡◌, ◌++◌, ◌&&◌, ◌||◌, ◌↔◌, ℕ, Bool, List, [], true, false, None, is_some, length};
+ghost use Rattle.std.specs.Prelude.{IfOk, OnOk, IsTrue, Option};
+ghost use Rattle.std.specs.List.{position_from};
 ghost use Rattle.std.specs.Result.{IsOkUnless};
+ghost use Rattle.money_core.specs.declared.day.Day.{Day};
+ghost use Rattle.money_core.specs.declared.style.Style.{Style};
+ghost use Rattle.book_core.specs.Accounts.{book_accounts};
 ghost use Rattle.journal_format.specs.declared.txn.Located.{Located};
+ghost use Rattle.treasury_state.specs.Mark.{HaveOwnMarks};
+ghost use Rattle.treasury_told.specs.Added.{added_lines, IsTaken, IsNoneRefused};
+ghost use Rattle.treasury_told.specs.Again.{again_of};
+ghost use Rattle.treasury_told.specs.Candidates.{candidates_of};
+ghost use Rattle.treasury_told.specs.Dated.{is_dated};
+ghost use Rattle.treasury_told.specs.FarDays.{far_in, far_if_any};
+ghost use Rattle.treasury_told.specs.FirstNotes.{BeginsWithNotes};
+ghost use Rattle.treasury_told.specs.ImportNotes.{accounts_if, date_if_any, notes_with, is_grown, further_notes};
+ghost use Rattle.treasury_told.specs.ImportNotes.{import_further, import_first, import_notes, far_and_odd, AreNoted};
+ghost use Rattle.treasury_told.specs.Imported.{import_view};
+ghost use Rattle.treasury_told.specs.Missing.{is_passed_over};
+ghost use Rattle.treasury_told.specs.NewAccount.{is_new_account, has_imported};
 ghost use Rattle.treasury_told.specs.OddAmount.{odd_amounts};
-ghost use Rattle.treasury_told.specs.Added.{added_lines, IsTaken};
 ghost use Rattle.treasury_told.specs.OddNotes.{odd_notes};
-ghost use Rattle.treasury_told.specs.FarDays.{far_in, far_if_any, far_notes};
 ghost use Rattle.treasury_told.specs.OtherBranch.{AreAllPrintable};
-ghost use Rattle.treasury_told.specs.FirstNotes.{first_notes, BeginsWithNotes};
 
 use crate::notes::BranchBefore;
 use crate::notes::accounts::{has_new_account, push_accounts};
@@ -54,6 +68,10 @@ impl Noted {
     fn is_empty(&self) -> bool
         ensures odd { IsTrue result → self.now.may_have_odd ≡ false }
         ensures far { IsTrue result → self.now.far ≡ None }
+        ensures again { IsTrue result → length self.now.again.items ≡ 0 }
+        ensures candidates { IsTrue result → length self.now.candidates.items ≡ 0 }
+        ensures accounts { IsTrue result → self.now.has_new_account ≡ false }
+        ensures dated { IsTrue result → self.now.dated ≡ None }
     {
         self.far.is_none()
             && !self.may_have_odd
@@ -110,6 +128,39 @@ fn push_odd_amounts(
     }
 }
 
+/// Appends the note of the accounts that are new, if they are to be named.
+fn push_accounts_if(
+    alloc: Global,
+    import: &Import<'_>,
+    lines: &[usize],
+    is: bool,
+    out: &mut Vec<u8>,
+) -> Result<(), Cause>
+    ensures { OnOk result (out.new.items ≡ out.old.items ++ accounts_if is (import_view import.now) lines.now) }
+{
+    if is {
+        push_accounts(alloc, import, lines, out)
+    } else {
+        Ok(())
+    }
+}
+
+/// Appends the note of the first posting with a date of its own, of the new record at that place, if there is one.
+fn push_date_if(
+    alloc: Global,
+    import: &Import<'_>,
+    lines: &[usize],
+    place: Option<usize>,
+    out: &mut Vec<u8>,
+) -> Result<(), Cause>
+    ensures { OnOk result (out.new.items ≡ out.old.items ++ date_if_any (import_view import.now) lines.now place) }
+{
+    match place {
+        Some(place) => push_dated(alloc, import, lines, place, out),
+        None => Ok(()),
+    }
+}
+
 /// Appends the notes of an import that follow those of its odd amounts, kind by kind.
 fn push_further(
     alloc: Global,
@@ -117,19 +168,22 @@ fn push_further(
     places: &NewPlaces,
     noted: &Noted,
     out: &mut Vec<u8>,
-) -> Result<(), Cause> {
+) -> Result<(), Cause>
+    ensures { let it = import_view import.now in (styles : List Style)
+        → noted.now.again.items ≡ again_of styles it.held 0 it.new
+        → noted.now.candidates.items ≡ candidates_of it.held it.new
+        → OnOk result (out.new.items ≡ out.old.items ++ notes_with styles it noted.now.has_new_account
+        noted.now.dated places.now.lines.items (is_passed_over places.now)) }
+{
     let lines: &[usize] = places.lines.as_slice();
     let again = noted.again.as_slice();
+    let candidates = noted.candidates.as_slice();
     push_again(alloc, import, lines, again, out)?;
-    let edited = find_edited(alloc, import, places, noted.candidates.as_slice(), again)?;
-    push_edited(alloc, import, lines, edited.as_slice(), out)?;
-    if noted.has_new_account {
-        push_accounts(alloc, import, lines, out)?;
-    }
-    match noted.dated {
-        Some(place) => push_dated(alloc, import, lines, place, out),
-        None => Ok(()),
-    }
+    let found = find_edited(alloc, import, places, candidates, again)?;
+    let edited = found.as_slice();
+    push_edited(alloc, import, lines, edited, out)?;
+    push_accounts_if(alloc, import, lines, noted.has_new_account, out)?;
+    push_date_if(alloc, import, lines, noted.dated, out)
 }
 
 /// Appends the notes of an import at these places, kind by kind.
@@ -141,18 +195,14 @@ fn push_at(
     noted: &Noted,
     out: &mut Vec<u8>,
 ) -> Result<(), Cause>
-    ensures { let it = import.now in let heads = places.now.lines.items in
-        (noted.now.may_have_odd ≡ false → odd_amounts styles.now heads it.text.now ≡ []) → OnOk result
-        (BeginsWithNotes (far_if_any it.source.now it.branch.now it.new.now heads noted.now.far
-        ++ odd_notes styles.now it.source.now it.text.now heads) out.old.items out.new.items) }
+    ensures { let it = import_view import.now in let heads = places.now.lines.items in (grown : Bool)
+        → AreNoted styles.now it grown noted.now → OnOk result (out.new.items ≡ out.old.items
+        ++ (far_and_odd styles.now it heads ++ further_notes styles.now it grown heads (is_passed_over places.now))) }
 {
     let lines: &[usize] = places.lines.as_slice();
     push_far_days(alloc, import, lines, noted.far, out)?;
     push_odd_amounts(alloc, styles, import, lines, noted.may_have_odd, out)?;
-    let mut further = Vec::new(alloc);
-    let told = push_further(alloc, import, places, noted, &mut further);
-    out.extend_from_slice(further.as_slice())?;
-    told
+    push_further(alloc, import, places, noted, out)
 }
 
 /// Appends the notes of an import, kind by kind.
@@ -163,15 +213,52 @@ fn push_noted(
     noted: &Noted,
     out: &mut Vec<u8>,
 ) -> Result<(), Cause>
-    ensures { let it = import.now in (list : List Located) → IsTaken styles.now it.held.now it.text.now it.new.now list
-        → ((heads : List ℕ) → noted.now.may_have_odd ≡ false → odd_amounts styles.now heads it.text.now ≡ [])
-        → OnOk result (let lines = added_lines styles.now it.held.now list in
-        BeginsWithNotes (far_if_any it.source.now it.branch.now it.new.now lines noted.now.far
-        ++ odd_notes styles.now it.source.now it.text.now lines) out.old.items out.new.items) }
+    ensures first { let it = import_view import.now in (list : List Located) (grown : Bool)
+        → IsTaken styles.now it.held it.text it.new list → AreNoted styles.now it grown noted.now → OnOk result
+        (BeginsWithNotes (far_and_odd styles.now it (added_lines styles.now it.held list))
+        out.old.items out.new.items) }
+    ensures all { let it = import_view import.now in (list : List Located) (lock : Option Day) (grown : Bool)
+        → IsTaken styles.now it.held it.text it.new list → IsNoneRefused styles.now lock it.held list
+        → AreAllPrintable styles.now it.held → HaveOwnMarks it.held → AreNoted styles.now it grown noted.now
+        → OnOk result (out.new.items ≡ out.old.items ++ (far_and_odd styles.now it
+        (added_lines styles.now it.held list) ++ import_further styles.now it grown list)) }
 {
     let asked = noted.candidates.as_slice();
     let places = new_places(alloc, styles, import, asked, noted.is_rare())?;
     push_at(alloc, styles, import, &places, noted, out)
+}
+
+/// How many accounts a branch has.
+fn count_of_accounts<L: Ledger>(branch: &Branch<L>) -> usize
+    ensures { result ≡ length (book_accounts (L.book branch.now.ledger)) }
+{
+    let accounts = branch.ledger.accounts();
+    accounts.len()
+}
+
+/// Whether a branch has more accounts than it had before, or this is a dry run.
+fn is_grown<L: Ledger>(branch: &Branch<L>, before: BranchBefore) -> bool
+    ensures { result ≡ is_grown before (L.book branch.now.ledger) }
+{
+    before.is_dry_run || count_of_accounts(branch) > before.accounts
+}
+
+/// Whether an account is to be named: new records post to it, and no held one has a leg on it, though some held one
+/// was imported.
+fn names_account(
+    alloc: Global,
+    is_grown: bool,
+    held: &[Record],
+    new: &[Record],
+) -> Result<bool, Cause>
+    ensures { IfOk result (λ is. IsTrue is ↔ (((is_grown && has_imported held.now) ≡ true)
+        × ((account : List ℕ) × (is_new_account held.now new.now account ≡ true)))) }
+{
+    if is_grown {
+        has_new_account(alloc, held, new)
+    } else {
+        Ok(false)
+    }
 }
 
 /// What there is to note of an import into a branch that had so many accounts before, or of a dry run of it.
@@ -185,12 +272,21 @@ fn noted_of<L: Ledger>(
     ensures odd { IfOk result (λ noted. (heads : List ℕ) → noted.may_have_odd ≡ false
         → odd_amounts styles.now heads import.now.text.now ≡ []) }
     ensures far { IfOk result (λ noted. noted.far ≡ far_in import.now.held.now import.now.new.now) }
+    ensures again { AreAllPrintable styles.now import.now.held.now → AreAllPrintable styles.now import.now.new.now
+        → IfOk result (λ noted. noted.again.items
+        ≡ again_of styles.now import.now.held.now 0 import.now.new.now) }
+    ensures candidates { IfOk result (λ noted. noted.candidates.items
+        ≡ candidates_of import.now.held.now import.now.new.now) }
+    ensures accounts { IfOk result (λ noted. IsTrue noted.has_new_account
+        ↔ (((is_grown before (L.book branch.now.ledger) && has_imported import.now.held.now) ≡ true)
+        × ((account : List ℕ) × (is_new_account import.now.held.now import.now.new.now account ≡ true)))) }
+    ensures dated { IfOk result (λ noted. noted.dated ≡ position_from is_dated 0 import.now.new.now) }
 {
-    let is_grown = before.is_dry_run || branch.ledger.accounts().len() > before.accounts;
     let may_have_odd = may_have_odd(styles, import.text);
     let again = find_again(alloc, styles, import.held, import.new)?;
     let candidates = find_candidates(alloc, import.held, import.new)?;
-    let has_new_account = is_grown && has_new_account(alloc, import.held, import.new)?;
+    let is_grown = is_grown(branch, before);
+    let has_new_account = names_account(alloc, is_grown, import.held, import.new)?;
     Ok(Noted {
         far: find_far(import),
         may_have_odd,
@@ -210,10 +306,17 @@ fn push_if_noted<L: Ledger>(
     before: BranchBefore,
     out: &mut Vec<u8>,
 ) -> Result<(), Cause>
-    ensures { let it = import.now in (list : List Located) → IsTaken styles.now it.held.now it.text.now it.new.now list
-        → OnOk result (let lines = added_lines styles.now it.held.now list in
-        BeginsWithNotes (far_notes it.source.now it.branch.now it.held.now it.new.now lines
-        ++ odd_notes styles.now it.source.now it.text.now lines) out.old.items out.new.items) }
+    ensures first { let it = import_view import.now in (list : List Located)
+        → AreAllPrintable styles.now it.held → AreAllPrintable styles.now it.new
+        → IsTaken styles.now it.held it.text it.new list → OnOk result
+        (BeginsWithNotes (far_and_odd styles.now it (added_lines styles.now it.held list))
+        out.old.items out.new.items) }
+    ensures all { let it = import_view import.now in (list : List Located) (lock : Option Day)
+        → AreAllPrintable styles.now it.held → AreAllPrintable styles.now it.new → HaveOwnMarks it.held
+        → IsTaken styles.now it.held it.text it.new list → IsNoneRefused styles.now lock it.held list
+        → OnOk result (out.new.items ≡ out.old.items ++ (far_and_odd styles.now it
+        (added_lines styles.now it.held list)
+        ++ import_further styles.now it (is_grown before (L.book branch.now.ledger)) list)) }
 {
     let noted = noted_of(alloc, styles, branch, import, before)?;
     if noted.is_empty() {
@@ -231,12 +334,17 @@ pub fn note_import<L: Ledger>(
     before: BranchBefore,
     out: &mut Vec<u8>,
 ) -> Result<(), Cause>
-    // They begin with those of another branch, of far days, and of odd amounts, on the lines of those transactions of
-    // the journal that are new.
-    ensures first { let it = import.now in (list : List Located) → AreAllPrintable state.now.styles it.new.now
-        → IsTaken state.now.styles it.held.now it.text.now it.new.now list → OnOk result
-        (BeginsWithNotes (first_notes state.now it.branch.now it.source.now it.text.now it.held.now it.new.now
-        (added_lines state.now.styles it.held.now list)) out.old.items out.new.items) }
+    // They begin with those of another branch, of far days, and of odd amounts.
+    ensures first { let it = import_view import.now in (list : List Located)
+        → AreAllPrintable state.now.styles it.held → AreAllPrintable state.now.styles it.new
+        → IsTaken state.now.styles it.held it.text it.new list
+        → OnOk result (BeginsWithNotes (import_first state.now it list) out.old.items out.new.items) }
+    // All of them, where nothing of the journal was refused.
+    ensures all { let it = import_view import.now in (list : List Located) (lock : Option Day)
+        → AreAllPrintable state.now.styles it.held → AreAllPrintable state.now.styles it.new → HaveOwnMarks it.held
+        → IsTaken state.now.styles it.held it.text it.new list → IsNoneRefused state.now.styles lock it.held list
+        → OnOk result (out.new.items
+        ≡ out.old.items ++ import_notes state.now it (is_grown before (L.book branch.now.ledger)) list) }
 {
     if import.new.is_empty() {
         return Ok(());

@@ -5,26 +5,41 @@
 //! Transactions of the same text have the same header, so that they are read together, and numbered as in the file.
 //! Of a text that may have an odd amount, or brings a far day, which is rare, all are read.
 
-ghost use Rattle.std.specs.Prelude.{◌≡◌, ◌⊎◌, ◌||◌, ℕ, true, List, length, map, fold, None, IfOk, OnOk};
-ghost use Rattle.std.specs.List.{list_any};
+ghost use Rattle.std.specs.Prelude.{◌≡◌, ◌⊎◌, ◌||◌, ℕ, true, [], List, length, map, fold, Option, None};
+ghost use Rattle.std.specs.Prelude.{IfOk, OnOk, nat_eq, if◌then◌else◌};
+ghost use Rattle.std.specs.List.{list_any, AllByRecursion};
+ghost use Rattle.std.specs.Option.{option_map};
 ghost use Rattle.std.specs.Result.{IsOkUnless};
+ghost use Rattle.journal_lines.specs.LineKind.{kind_of};
 ghost use Rattle.money_core.specs.declared.day.Day.{Day as When};
 ghost use Rattle.journal_format.specs.declared.txn.Located.{Located};
+ghost use Rattle.journal_format.specs.Pieces.{Reads};
+ghost use Rattle.journal_format.specs.Printable.{IsPrintable};
+ghost use Rattle.treasury_state.specs.declared.record.Record.{Record as Kept};
 ghost use Rattle.treasury_told.specs.declared.explain.standing.Standing.{Standing as Read};
 ghost use Rattle.treasury_told.specs.declared.notes.heads.HeaderLine.{HeaderLine as HeadLine};
+ghost use Rattle.treasury_told.specs.declared.notes.places.groups.ToldHead.{ToldHead as HeadTold};
 ghost use Rattle.treasury_state.specs.Mark.{HaveOwnMarks};
-ghost use Rattle.treasury_core.specs.Step.{records_in_file};
+ghost use Rattle.treasury_core.specs.Step.{records_in_file, refused_in};
 ghost use Rattle.treasury_told.specs.Added.{added_lines, IsTaken};
 ghost use Rattle.treasury_told.specs.FarDays.{with_day, span_of};
+ghost use Rattle.treasury_told.specs.Heads.{line_with_number};
+ghost use Rattle.treasury_told.specs.Headings.{IsReadAs, AreReadAs, AreHeadsOf};
 ghost use Rattle.treasury_told.specs.Index.{is_place_among};
 ghost use Rattle.treasury_told.specs.Missing.{in_span_of, is_passed_over, is_by_record, repeats, TellsOf};
 ghost use Rattle.treasury_told.specs.Numbered.{new_of};
+ghost use Rattle.treasury_told.specs.OpenText.{head_on, tells_nothing, is_indented, opens_on, with_line, open_lines};
+ghost use Rattle.treasury_told.specs.OpenText.{heads_after, next_is_new, next_ones, is_new_by, left_by, told_lines};
+ghost use Rattle.treasury_told.specs.Standing.{located_of, AreStanding};
+
+mod groups;
 
 use crate::explain::standing::{Holder, Standing, standings};
 use crate::notes::Import;
 use crate::notes::days::{Span, span_of};
 use crate::notes::heads::{HeaderLine, header_lines, numbers_of};
-use journal_lines::{LineKind, Lines, Status, kind, read_header};
+use crate::notes::places::groups::{Head, Heading, Told, ToldHead, groups_in, told_each};
+use journal_lines::{LineKind, Lines, kind, read_header};
 use money_core::{Cause, Day, Styles};
 use std::alloc::Global;
 use std::collections::HashMap;
@@ -54,246 +69,204 @@ impl NewPlaces {
     }
 }
 
-/// Replaces the key by that of a header.
-fn put_key(
-    key: &mut Vec<u8>,
-    day: Day,
-    status: Option<Status>,
-    code: Option<&[u8]>,
-    description: &[u8],
-) -> Result<(), Cause> {
-    key.clear();
-    key.extend_from_slice(&day.0.to_be_bytes())?;
-    key.push(match (status, code.is_some()) {
-        (None, false) => b' ',
-        (None, true) => b'(',
-        (Some(Status::Pending), false) => b'!',
-        (Some(Status::Pending), true) => b'?',
-        (Some(Status::Cleared), false) => b'*',
-        (Some(Status::Cleared), true) => b'+',
-    })?;
-    if let Some(code) = code {
-        key.extend_from_slice(code)?;
-        key.push(0)?;
-    }
-    key.extend_from_slice(description)?;
-    Ok(())
-}
-
-/// Replaces the key by that of a record's header.
-fn put_key_of(record: &Record, key: &mut Vec<u8>) -> Result<(), Cause> {
-    let txn = &record.txn;
-    let code = match &txn.code {
-        Some(code) => Some(code.as_str().as_bytes()),
-        None => None,
-    };
-    put_key(
-        key,
-        txn.day,
-        txn.status,
-        code,
-        txn.description.as_str().as_bytes(),
-    )
-}
-
-/// The transactions with one header: how many are new, and how many the text has.
-#[derive(Clone, Copy)]
-struct Alike {
-    new: usize,
-    in_text: usize,
-}
-
-impl Alike {
-    /// Whether their headers do not tell which of them are new.
-    fn is_open(self) -> bool {
-        self.new != self.in_text
-    }
-}
-
-/// The transactions with the header of a new record, or of one that is asked for.
-#[derive(Drop)]
-struct Groups {
-    /// The place in the list, by the key of the header.
-    places: HashMap<Vec<u8>, usize>,
-    list: Vec<Alike>,
-}
-
-impl Groups {
-    /// Puts a header with that key into its group, and whether it is that of a new record.
-    fn put(&mut self, alloc: Global, key: &[u8], is_new: bool) -> Result<(), Cause> {
-        let new = usize::from(is_new);
-        if let Some(place) = self.places.get(key) {
-            if let Some(alike) = self.list.get_mut(*place) {
-                alike.new = alike.new.saturating_add(new);
-            }
-            return Ok(());
-        }
-        let mut own = Vec::with_capacity(alloc, key.len())?;
-        own.extend_from_slice(key)?;
-        let _ = self.places.insert(own, self.list.len())?;
-        self.list.push(Alike { new, in_text: 0 })?;
-        Ok(())
-    }
-
-    /// The group of a header line with that key, which the text has.
-    fn count(&mut self, key: &[u8]) -> Option<usize> {
-        let place = *self.places.get(key)?;
-        let alike = self.list.get_mut(place)?;
-        alike.in_text = alike.in_text.saturating_add(1);
-        Some(place)
-    }
-}
-
-/// The groups of the new records, and of those held ones that are asked for.
-fn groups_of(alloc: Global, import: &Import<'_>, asked: &[usize]) -> Result<Groups, Cause> {
-    let mut groups = Groups {
-        places: HashMap::new(alloc),
-        list: Vec::new(alloc),
-    };
-    let mut key = Vec::new(alloc);
-    for record in import.new {
-        put_key_of(record, &mut key)?;
-        groups.put(alloc, key.as_slice(), true)?;
-    }
-    for place in asked {
-        if let Some(record) = import.held.get(*place) {
-            put_key_of(record, &mut key)?;
-            groups.put(alloc, key.as_slice(), false)?;
-        }
-    }
-    Ok(groups)
-}
-
-/// A header of a text, and the group that it is in, if it is in one.
-#[derive(Clone, Copy)]
-struct Head {
-    line: usize,
-    day: Day,
-    group: Option<usize>,
-}
-
-/// The headers of a text, which are counted in their groups.
-fn heads_of(
-    alloc: Global,
-    lines: &[HeaderLine<'_>],
-    groups: &mut Groups,
-) -> Result<Vec<Head>, Cause> {
-    let mut heads = Vec::with_capacity(alloc, lines.len())?;
-    let mut key = Vec::new(alloc);
-    for line in lines {
-        let header = match read_header(line.text) {
-            Ok(header) => header,
-            Err(cause) => return Err(cause),
-        };
-        put_key(
-            &mut key,
-            header.day,
-            header.status,
-            header.code,
-            header.description,
-        )?;
-        heads.push(Head {
+/// The header that a line has.
+fn head_of<'a>(line: &HeaderLine<'a>) -> Result<Head<'a>, Cause>
+    ensures { IfOk result (λ head. IsReadAs (line_with_number line.now) head) }
+{
+    match read_header(line.text) {
+        Ok(header) => Ok(Head {
             line: line.number,
-            day: header.day,
-            group: groups.count(key.as_slice()),
-        })?;
+            heading: Heading::of_header(&header),
+        }),
+        Err(cause) => Err(cause),
+    }
+}
+
+/// The headers of a text, with their lines.
+fn heads_of<'a>(alloc: Global, lines: &[HeaderLine<'a>]) -> Result<Vec<Head<'a>>, Cause>
+    ensures { IfOk result (λ heads. AreReadAs (map line_with_number lines.now) heads.items) }
+{
+    let mut heads = Vec::with_capacity(alloc, lines.len())?;
+    for line in lines {
+        heads.push(head_of(line)?)?;
     }
     Ok(heads)
 }
 
-/// What the headers tell of a transaction.
-#[derive(Clone, Copy, PartialEq, Eq)]
-enum Told {
-    New,
-    /// It is held, and was not asked for.
-    Held,
-    Nothing,
+/// What the first of some headers tells, if it stands on that line, and the others.
+fn head_on(heads: &[ToldHead], number: usize) -> Option<(Told, &[ToldHead])>
+    ensures { option_map (λ p. (p.0, p.1.now)) result ≡ head_on heads.entry.now number }
+{
+    match heads {
+        [head, rest @ ..] if head.line == number => Some((head.told, rest)),
+        _ => None,
+    }
 }
 
-/// What the headers tell of a transaction with that one.
-fn told_of(groups: &[Alike], head: Head) -> Told {
-    let Some(place) = head.group else {
-        return Told::Held;
-    };
-    match groups.get(place) {
-        Some(alike) if alike.is_open() => Told::Nothing,
-        Some(_) => Told::New,
-        None => Told::Held,
+/// Whether a header tells nothing of its transaction.
+fn tells_nothing(told: Told) -> bool
+    ensures { result ≡ tells_nothing told }
+{
+    match told {
+        Told::Nothing => true,
+        Told::New | Told::Held => false,
     }
+}
+
+/// Whether a line is indented.
+fn is_indented(line: &[u8]) -> bool
+    ensures { result ≡ is_indented (kind_of line.now) }
+{
+    match kind(line) {
+        LineKind::Indented => true,
+        LineKind::Blank
+        | LineKind::Comment
+        | LineKind::Block
+        | LineKind::Header
+        | LineKind::Commodity
+        | LineKind::Skipped
+        | LineKind::Unknown => false,
+    }
+}
+
+/// Whether a line is one of an open transaction, where the line before it is one or not, and the headers after it.
+fn opens_on<'a>(
+    is_open: bool,
+    heads: &'a [ToldHead],
+    number: usize,
+    line: &[u8],
+) -> (bool, &'a [ToldHead])
+    ensures is { result.0 ≡ opens_on is_open (head_on heads.entry.now number) line.now }
+    ensures rest { result.1.now ≡ heads_after heads.entry.now (head_on heads.entry.now number) }
+{
+    match head_on(heads, number) {
+        Some((told, rest)) => (tells_nothing(told), rest),
+        // An entry ends at the first line that is not indented.
+        None => (is_open && is_indented(line), heads),
+    }
+}
+
+/// Puts a line after others, with a line feed between, and none at the end, so that no text gets longer.
+fn put_line(out: &mut Vec<u8>, line: &[u8]) -> Result<(), Cause>
+    ensures value { OnOk result (out.new.items ≡ with_line out.old.items line.now) }
+    ensures memory { IsOkUnless result Cause.OutOfMemory }
+{
+    if !out.is_empty() {
+        out.push(b'\n')?;
+    }
+    out.extend_from_slice(line)?;
+    Ok(())
+}
+
+/// Puts a line after others if it is one of an open transaction.
+fn put_open(out: &mut Vec<u8>, is_open: bool, line: &[u8]) -> Result<(), Cause>
+    ensures value { OnOk result (out.new.items
+        ≡ (if is_open then with_line out.old.items line.now else out.old.items)) }
+    ensures memory { IsOkUnless result Cause.OutOfMemory }
+{
+    if is_open { put_line(out, line) } else { Ok(()) }
 }
 
 /// The transactions of a text of which the headers tell nothing.
-fn open_text(
-    alloc: Global,
-    text: &[u8],
-    groups: &[Alike],
-    heads: &[Head],
-) -> Result<Vec<u8>, Cause> {
-    let mut open = Vec::new(alloc);
-    let mut next = 0usize;
+fn open_text(alloc: Global, text: &[u8], heads: &[ToldHead]) -> Result<Vec<u8>, Cause>
+    ensures value { IfOk result (λ out. out.items ≡ fold with_line [] (open_lines heads.now text.now)) }
+    ensures memory { IsOkUnless result Cause.OutOfMemory }
+{
+    let mut out = Vec::new(alloc);
+    let mut rest = heads;
     let mut is_open = false;
     for (number, line) in Lines::new(text) {
-        match heads.get(next) {
-            Some(head) if head.line == number => {
-                is_open = told_of(groups, *head) == Told::Nothing;
-                next = next.saturating_add(1);
-            }
-            // An entry ends at the first line that is not indented.
-            _ => is_open = is_open && kind(line) == LineKind::Indented,
-        }
-        if is_open {
-            // Before a line and not after it, so that no text gets longer.
-            if !open.is_empty() {
-                open.push(b'\n')?;
-            }
-            open.extend_from_slice(line)?;
-        }
+        let (opens, more) = opens_on(is_open, rest, number, line);
+        put_open(&mut out, opens, line)?;
+        is_open = opens;
+        rest = more;
     }
-    Ok(open)
+    Ok(out)
 }
 
-/// Who holds the transaction at that place.
-fn holder_at(read: &[Standing], place: usize) -> Option<Holder> {
-    match read.get(place) {
-        Some(standing) => Some(standing.holder),
-        None => None,
-    }
-}
-
-/// The lines of the new transactions, and the held ones that are repeated, where those of which the headers tell
-/// nothing were read.
-fn places_by_heads(
+/// The transactions of a text that is mostly empty, each with its mark and who holds that.
+fn open_standings(
     alloc: Global,
-    groups: &[Alike],
-    heads: &[Head],
-    read: &[Standing],
-) -> Result<NewPlaces, Cause> {
-    let mut lines = Vec::new(alloc);
-    let mut repeated = HashMap::new(alloc);
-    let mut span: Option<Span> = None;
-    let mut next = 0usize;
-    for head in heads {
-        span = Span::with_day(span, head.day);
-        match told_of(groups, *head) {
-            Told::New => lines.push(head.line)?,
-            Told::Held => {}
-            Told::Nothing => {
-                match holder_at(read, next) {
-                    Some(Holder::Nobody) => lines.push(head.line)?,
-                    Some(Holder::Record(place)) => {
-                        let _ = repeated.insert(place, ())?;
-                    }
-                    _ => {}
-                }
-                next = next.saturating_add(1);
-            }
-        }
+    styles: &Styles,
+    held: &[Record],
+    text: &[u8],
+) -> Result<Vec<Standing>, Cause>
+    ensures only { (list : List Located) → Reads styles.now text.now list
+        → IfOk result (λ read. located_of read.items ≡ list) }
+    ensures each { IfOk result (λ read. AreStanding styles.now held.now [] read.items) }
+{
+    if text.is_empty() {
+        return Ok(Vec::new(alloc));
     }
-    Ok(NewPlaces {
-        lines,
-        repeated,
-        span,
-    })
+    standings(alloc, styles, held, text)
+}
+
+/// Whether the first of some transactions is new.
+fn next_is_new(read: &[Standing]) -> bool
+    ensures { result ≡ next_is_new read.now }
+{
+    match read {
+        [first, ..] => first.is_new(),
+        [] => false,
+    }
+}
+
+/// All but the first of some transactions.
+fn next_ones(read: &[Standing]) -> &[Standing]
+    ensures { result.now ≡ next_ones read.entry.now }
+{
+    match read {
+        [_, rest @ ..] => rest,
+        [] => read,
+    }
+}
+
+/// Whether a transaction is new, as its header tells, or else as it was read.
+fn is_new_by(told: Told, read: &[Standing]) -> bool
+    ensures { result ≡ is_new_by told read.now }
+{
+    match told {
+        Told::New => true,
+        Told::Held => false,
+        Told::Nothing => next_is_new(read),
+    }
+}
+
+/// The transactions that were read after that one.
+fn left_by(told: Told, read: &[Standing]) -> &[Standing]
+    ensures { result.now ≡ left_by told read.entry.now }
+{
+    match told {
+        Told::New | Told::Held => read,
+        Told::Nothing => next_ones(read),
+    }
+}
+
+/// The lines of the new transactions, where those of which the headers tell nothing were read.
+fn lines_told(alloc: Global, heads: &[ToldHead], read: &[Standing]) -> Result<Vec<usize>, Cause>
+    ensures value { IfOk result (λ lines. lines.items ≡ told_lines heads.now read.now) }
+    ensures memory { IsOkUnless result Cause.OutOfMemory }
+{
+    let mut lines = Vec::new(alloc);
+    let mut rest = read;
+    for head in heads {
+        if is_new_by(head.told, rest) {
+            lines.push(head.line)?;
+        }
+        rest = left_by(head.told, rest);
+    }
+    Ok(lines)
+}
+
+/// The first and the last day of some headers.
+fn span_told(heads: &[ToldHead]) -> Option<Span>
+    ensures { result ≡ fold with_day None (map (λ (h : HeadTold). h.day) heads.now) }
+{
+    let mut days: Option<Span> = None;
+    for head in heads {
+        days = Span::with_day(days, head.day);
+    }
+    days
 }
 
 /// Where the new transactions stand, if all of the text are: these are all headers.
@@ -322,17 +295,37 @@ fn places_among(
     import: &Import<'_>,
     asked: &[usize],
     lines: &[HeaderLine<'_>],
-) -> Result<NewPlaces, Cause> {
-    let mut groups = groups_of(alloc, import, asked)?;
-    let heads = heads_of(alloc, lines, &mut groups)?;
-    let (groups, heads) = (groups.list.as_slice(), heads.as_slice());
-    let open = open_text(alloc, import.text, groups, heads)?;
-    let read = if open.is_empty() {
-        Vec::new(alloc)
-    } else {
-        standings(alloc, styles, import.held, open.as_slice())?
-    };
-    places_by_heads(alloc, groups, heads, read.as_slice())
+) -> Result<NewPlaces, Cause>
+    ensures lines { (list : List Located) (lock : Option When)
+        → IsTaken styles.now import.now.held.now import.now.text.now import.now.new.now list
+        → refused_in styles.now lock import.now.held.now (records_in_file styles.now list) ≡ None
+        → AreHeadsOf (map line_with_number lines.now) list
+        → IfOk result (λ places. places.lines.items ≡ added_lines styles.now import.now.held.now list) }
+    ensures missing { (list : List Located) (lock : Option When)
+        → IsTaken styles.now import.now.held.now import.now.text.now import.now.new.now list
+        → refused_in styles.now lock import.now.held.now (records_in_file styles.now list) ≡ None
+        → AreHeadsOf (map line_with_number lines.now) list
+        → HaveOwnMarks import.now.held.now
+        → AllByRecursion (λ (r : Kept). IsPrintable styles.now r.txn) import.now.held.now
+        → IfOk result (λ places. (place : ℕ) → list_any (nat_eq place) asked.now ≡ true
+        → TellsOf import.now.held.now (records_in_file styles.now list) places place) }
+{
+    styles.are_styles();
+    let found = heads_of(alloc, lines)?;
+    let heads = found.as_slice();
+    let groups = groups_in(alloc, import.held, import.new, asked, heads)?;
+    let tells = told_each(alloc, &groups, heads)?;
+    let told = tells.as_slice();
+    let unread = open_text(alloc, import.text, told)?;
+    let standing = open_standings(alloc, styles, import.held, unread.as_slice())?;
+    let read = standing.as_slice();
+    let new_lines = lines_told(alloc, told, read)?;
+    let repeated = repeated_in(alloc, read)?;
+    Ok(NewPlaces {
+        lines: new_lines,
+        repeated,
+        span: span_told(told),
+    })
 }
 
 /// The lines of the headers of the new ones among the transactions of a text, in order.
@@ -435,11 +428,24 @@ pub fn new_places(
         → IsTaken styles.now import.now.held.now import.now.text.now import.now.new.now list
         → length list ≡ length import.now.new.now
         → IfOk result (λ places. places.lines.items ≡ added_lines styles.now import.now.held.now list) }
-    // In both cases the text is told to pass over exactly those held records that it does pass over.
+    // And so they are where nothing of the text was refused.
+    ensures taken { (list : List Located) (lock : Option When)
+        → IsTaken styles.now import.now.held.now import.now.text.now import.now.new.now list
+        → refused_in styles.now lock import.now.held.now (records_in_file styles.now list) ≡ None
+        → IfOk result (λ places. places.lines.items ≡ added_lines styles.now import.now.held.now list) }
+    // In the first two cases the text is told to pass over exactly those held records that it does pass over.
     ensures missing { (list : List Located)
         → IsTaken styles.now import.now.held.now import.now.text.now import.now.new.now list
         → HaveOwnMarks import.now.held.now → (is_whole ≡ true) ⊎ (length list ≡ length import.now.new.now)
         → IfOk result (λ places. (place : ℕ)
+        → TellsOf import.now.held.now (records_in_file styles.now list) places place) }
+    // And where nothing was refused it is told so of those that were asked for.
+    ensures asked { (list : List Located) (lock : Option When)
+        → IsTaken styles.now import.now.held.now import.now.text.now import.now.new.now list
+        → refused_in styles.now lock import.now.held.now (records_in_file styles.now list) ≡ None
+        → HaveOwnMarks import.now.held.now
+        → AllByRecursion (λ (r : Kept). IsPrintable styles.now r.txn) import.now.held.now
+        → IfOk result (λ places. (place : ℕ) → list_any (nat_eq place) asked.now ≡ true
         → TellsOf import.now.held.now (records_in_file styles.now list) places place) }
 {
     let found = header_lines(alloc, import.text)?;

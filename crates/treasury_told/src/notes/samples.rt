@@ -47,7 +47,7 @@ fn has_three_digits(text: &[u8]) -> bool
     left == 0
 }
 
-/// A mark, if just three digits and no mark stand behind it.
+/// A mark, if just three digits and no mark stand after it.
 fn mark_before(mark: u8, behind: &[u8]) -> Option<u8>
     ensures { result ≡ if_three mark (marks_and_digits false behind.now) }
 {
