@@ -13,6 +13,7 @@ pub mod LeftLemmas
 pub mod ForeseenLemmas
 pub mod ServeLemmas
 pub mod HistoryLemmas
+pub mod TakenLemmas
 pub mod OneRequestLemmas
 pub mod WebReplyLemmas
 pub mod ObjectLemmas

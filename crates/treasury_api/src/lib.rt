@@ -18,7 +18,7 @@ pub use answers::{MOST_PLAIN, answer_line, room_for_line};
 pub use asking::Asked;
 pub use foreseeing::additions_ahead;
 pub use http_request::Form;
-pub use laws::{commands_law, lists_law, refusal_law, run_law};
+pub use laws::{commands_law, lists_law, refusal_law, run_law, taken_law};
 pub use lines::write_whole;
 pub use listener::{Listener, NoListener};
 pub use report::Report;

@@ -7,9 +7,10 @@ use book_core::{Ledger, Refusal};
 use std::alloc::Global;
 use treasury_core::State;
 use treasury_requests::Spelled;
-use treasury_told::dry_run::notes_of_dry_run;
+use treasury_told::dry_run::push_dry_run_notes;
+use treasury_told::ended::drop_cut_line;
 use treasury_told::explain::explain;
-use treasury_told::notes::{HeldBefore, notes_of};
+use treasury_told::notes::{HeldBefore, push_notes};
 
 /// The last line of what is said of a dry run.
 pub const NOTHING_ENTERED: &str = "treasury: a dry run: nothing was entered\n";
@@ -29,6 +30,7 @@ pub fn reason_of<L: Ledger>(
     if let Some(state) = state {
         let _ = explain(alloc, state, &request.request, source, refusal, &mut reason);
     }
+    drop_cut_line(&mut reason);
     reason
 }
 
@@ -41,13 +43,29 @@ fn notes_ahead<L: Ledger>(
 ) -> Vec<u8>
     requires { HasDayNumbers request.now.request }
 {
-    let Some(state) = state else {
-        return Vec::new(alloc);
-    };
-    match additions_ahead(alloc, state, request) {
-        Some(added) => notes_of_dry_run(alloc, state, &request.request, source, added.additions()),
-        None => Vec::new(alloc),
+    let mut notes = Vec::new(alloc);
+    if let Some(state) = state {
+        if let Some(added) = additions_ahead(alloc, state, request) {
+            let (asked, additions) = (&request.request, added.additions());
+            let _ = push_dry_run_notes(alloc, state, asked, source, additions, &mut notes);
+        }
     }
+    notes
+}
+
+/// What is noted of a request that was answered, as far as there is memory for it.
+fn notes_after<L: Ledger>(
+    alloc: Global,
+    state: Option<&State<L>>,
+    request: &Spelled,
+    source: &str,
+    held: Option<HeldBefore>,
+) -> Vec<u8> {
+    let mut notes = Vec::new(alloc);
+    if let (Some(state), Some(held)) = (state, held) {
+        let _ = push_notes(alloc, state, &request.request, source, held, &mut notes);
+    }
+    notes
 }
 
 /// What is said beside an answer that is no refusal, as far as there is memory for it. The state is the one after the
@@ -61,11 +79,13 @@ pub fn notes_on<L: Ledger>(
 ) -> Vec<u8>
     requires { HasDayNumbers request.now.request }
 {
-    if request.is_dry_run {
+    let mut notes = if request.is_dry_run {
         notes_ahead(alloc, state, request, source)
     } else {
-        notes_of(alloc, state, &request.request, source, held)
-    }
+        notes_after(alloc, state, request, source, held)
+    };
+    drop_cut_line(&mut notes);
+    notes
 }
 
 /// What is said beside the answer to a request whose journal has no file, as far as there is memory for it: why it is
