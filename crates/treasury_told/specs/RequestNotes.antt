@@ -6,6 +6,7 @@ use Rattle.std.specs.Option.{option_map}
 use Rattle.std.specs.Ordering.{int_eq}
 use Rattle.money_core.specs.declared.day.Day.{Day}
 use Rattle.money_core.specs.declared.style.Style.{Style}
+use Rattle.book_core.specs.Accounts.{book_accounts}
 use Rattle.treasury_state.specs.declared.record.Record.{Record}
 use Rattle.treasury_state.specs.declared.transfer.Transfer.{Transfer}
 use Rattle.treasury_state.specs.Federation.{Federation, Branch, branch_at, entries}
@@ -34,6 +35,24 @@ abbrev pub amount_asked : Request → Option (List ℕ)
 amount_asked (req.Dispatch id from to day amount account) = Some amount
 amount_asked (req.Receive id branch day account part) = option_map (λ (p : WrittenPart). p.amount) part
 amount_asked _ = None
+
+-- ---- what was held before
+
+-- by a branch: how many records, how many accounts of their legs, and the day through which it was locked
+abbrev pub held_by : Branch → HeldOfBranch
+held_by b = record {
+  entries = length b.records;
+  accounts = length (book_accounts (entries b.records));
+  locked = b.locked;
+  is_dry_run = false;
+}
+
+-- by all: how many commodities were declared, and what the branch of the request held, if it was there
+abbrev pub held_before : Federation → Request → HeldBefore
+held_before f request = record {
+  commodities = length f.styles;
+  branch = option_map held_by (branch_in f (branch_asked request));
+}
 
 -- ---- a lock
 

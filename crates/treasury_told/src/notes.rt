@@ -33,7 +33,7 @@ ghost use Rattle.treasury_told.specs.ImportNotes.{IsEnteredAhead, import_ahead};
 ghost use Rattle.treasury_told.specs.NamedAccount.{named_account_if, unknown_notes};
 ghost use Rattle.treasury_told.specs.Lock.{branch_asked};
 ghost use Rattle.treasury_told.specs.Failure.{journal_asked};
-ghost use Rattle.treasury_told.specs.RequestNotes.{branch_in, amount_asked};
+ghost use Rattle.treasury_told.specs.RequestNotes.{branch_in, amount_asked, held_by, held_before};
 ghost use Rattle.treasury_told.specs.RequestNotes.{is_locked_through, locked_words, lock_notes, closed_words};
 ghost use Rattle.treasury_told.specs.RequestNotes.{closing_notes, late_if, odd_if, transfer_notes, entry_notes};
 ghost use Rattle.treasury_told.specs.RequestNotes.{added_notes, notes_on, notes_if_there, commodity_notes};
@@ -47,7 +47,7 @@ use crate::notes::days::{
     push_early_closing, push_early_lock, push_far_transfer, push_late_receipt, push_open_year,
 };
 pub(crate) use crate::notes::import::Import;
-use crate::notes::import::note_import;
+use crate::notes::import::{count_of_accounts, note_import};
 use crate::notes::samples::push_sample_note;
 use book_core::Ledger;
 use money_core::{Cause, Day, Styles, Text};
@@ -103,11 +103,13 @@ fn branch_of<'a, L: Ledger>(state: &'a State<L>, request: &Request) -> Option<&'
 }
 
 /// What the branch of a request holds.
-fn held_of<L: Ledger>(state: &State<L>, request: &Request) -> Option<BranchBefore> {
+fn held_of<L: Ledger>(state: &State<L>, request: &Request) -> Option<BranchBefore>
+    ensures { result ≡ option_map held_by (branch_in state.now (branch_asked request.now)) }
+{
     match branch_of(state, request) {
         Some(branch) => Some(BranchBefore {
             entries: branch.records.items().len(),
-            accounts: branch.ledger.accounts().len(),
+            accounts: count_of_accounts(branch),
             locked: branch.locked,
             is_dry_run: false,
         }),
@@ -116,7 +118,9 @@ fn held_of<L: Ledger>(state: &State<L>, request: &Request) -> Option<BranchBefor
 }
 
 /// What is held before a request is answered.
-pub fn held_before<L: Ledger>(state: Option<&State<L>>, request: &Request) -> Option<HeldBefore> {
+pub fn held_before<L: Ledger>(state: Option<&State<L>>, request: &Request) -> Option<HeldBefore>
+    ensures { result ≡ option_map (λ s. held_before s.now request.now) state.entry }
+{
     match state {
         Some(state) => Some(HeldBefore {
             commodities: state.styles().len(),

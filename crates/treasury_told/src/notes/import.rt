@@ -229,7 +229,7 @@ fn push_noted(
 }
 
 /// How many accounts a branch has.
-fn count_of_accounts<L: Ledger>(branch: &Branch<L>) -> usize
+pub(super) fn count_of_accounts<L: Ledger>(branch: &Branch<L>) -> usize
     ensures { result ≡ length (book_accounts (L.book branch.now.ledger)) }
 {
     let accounts = branch.ledger.accounts();
