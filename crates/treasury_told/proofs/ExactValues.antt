@@ -2,9 +2,12 @@
 use Rattle.std.proofs.Common.{◌≡◌, ◌*◌, ◌+◌, [], refl}
 use Rattle.std.specs.Prelude.{codes}
 use Rattle.std.specs.Fmt.{digits}
+use Rattle.std.specs.Str.{is_utf8, chars}
+use lib.Utf8.{encode}
 use Rattle.money_core.specs.declared.mark.Mark.TheVariants.{Point, Comma}
 use Rattle.money_core.specs.Printed.{places}
-use Rattle.treasury_told.specs.ExactProduct.{without_zeros, exact_number}
+use Rattle.terminal_text.specs.Shown.{shown_text}
+use Rattle.treasury_told.specs.ExactProduct.{without_zeros, exact_number, shown_symbol}
 
 -- of `3500` the two zeros at the end are left out, of `0405` none, of `0000` all
 pub zeros_at_the_end : without_zeros (codes "3500") ≡ codes "35"
@@ -30,3 +33,12 @@ seven_at_twelve_decimals = refl
 pub thousand_with_comma : exact_number Comma (1 + 2) (10_005 * 2_005) ≡ codes "20060,025"
 unfolding places digits
 thousand_with_comma = refl
+
+-- a symbol with a blank stands in quotes, one of letters without
+pub symbol_with_blank : shown_symbol (codes "red stars") ≡ codes "\"red stars\""
+unfolding shown_text is_utf8 chars encode
+symbol_with_blank = refl
+
+pub symbol_of_letters : shown_symbol (codes "CHF") ≡ codes "CHF"
+unfolding shown_text is_utf8 chars encode
+symbol_of_letters = refl

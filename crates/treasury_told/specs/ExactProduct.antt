@@ -9,10 +9,12 @@ use Rattle.money_core.specs.declared.price.Price.{Price}
 use Rattle.money_core.specs.declared.price.Price.TheVariants.{Each, Total}
 use Rattle.money_core.specs.declared.style.Style.{Style}
 use Rattle.money_core.specs.declared.unit.Unit.{Unit as Commodity}
+use Rattle.money_core.specs.AmountText.{gap}
 use Rattle.money_core.specs.Cause.{cause_number}
 use Rattle.money_core.specs.Mark.{decimal_byte}
 use Rattle.money_core.specs.Price.{cost_unit}
 use Rattle.money_core.specs.Printed.{places}
+use Rattle.money_core.specs.Symbol.{is_bare, in_quotes}
 use Rattle.journal_format.specs.declared.posting.Posting.{Posting}
 use Rattle.journal_balance.specs.Legs.{cost_fault_of}
 use Rattle.treasury_told.specs.Shown.{shown_text}
@@ -32,11 +34,15 @@ abbrev pub exact_number : Mark → ℕ → ℕ → List ℕ
 exact_number mark n number =
     decimal (number / 10 ^ n) ++ decimal_byte mark ∷ without_zeros (places n (number % 10 ^ n))
 
--- the same of a commodity, the symbol on its side
+-- a symbol, in quotes where it could not stand without
+abbrev pub shown_symbol : List ℕ → List ℕ
+shown_symbol symbol = if is_bare symbol then shown_text symbol else in_quotes (shown_text symbol)
+
+-- such a number of a commodity, as an amount is printed: the symbol on its side, with a blank between or without
 unfoldable pub exact_amount : Style → ℕ → ℕ → List ℕ
 exact_amount style n number =
-    if style.left then shown_text style.symbol ++ exact_number style.mark n number
-    else exact_number style.mark n number ++ codes " " ++ shown_text style.symbol
+    if style.left then shown_symbol style.symbol ++ (gap style.spaced ++ exact_number style.mark n number)
+    else exact_number style.mark n number ++ (gap style.spaced ++ shown_symbol style.symbol)
 
 -- the line with it
 unfoldable pub product_line : Style → ℕ → ℕ → List ℕ

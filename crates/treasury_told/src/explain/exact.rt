@@ -5,18 +5,19 @@ ghost use Rattle.std.specs.List.{list_all};
 ghost use Rattle.std.specs.Option.{option_map};
 ghost use Rattle.std.specs.Result.{IsOkUnless};
 ghost use Rattle.money_core.specs.Amount.{limit};
-ghost use Rattle.money_core.specs.AmountText.{IsDeclared};
+ghost use Rattle.money_core.specs.AmountText.{gap, IsDeclared};
 ghost use Rattle.money_core.specs.NumberText.{WritesQuantity};
 ghost use Rattle.money_core.specs.Price.{unit_limit, is_price};
 ghost use Rattle.money_core.specs.Printed.{places};
 ghost use Rattle.journal_format.specs.Printable.{is_posting};
-ghost use Rattle.treasury_told.specs.ExactProduct.{without_zeros, exact_number, exact_amount, product_line};
+ghost use Rattle.treasury_told.specs.ExactProduct.{without_zeros, exact_number, shown_symbol, exact_amount};
+ghost use Rattle.treasury_told.specs.ExactProduct.{product_line};
 ghost use Rattle.journal_balance.specs.Legs.{cost_fault_of};
 ghost use Rattle.treasury_told.specs.ExactProduct.{product_text, product_at, is_not_exact, is_inexact, inexact_text};
 
 use crate::explain::shown::push_shown;
 use journal_format::Posting;
-use money_core::{Cause, Mark, Price, Style, Styles, Unit, cost_of};
+use money_core::{Cause, Mark, Price, Style, Styles, Unit, cost_of, is_bare};
 use std::alloc::Global;
 
 /// The greatest number of decimals of a product: those of an amount, and those of its unit cost.
@@ -82,6 +83,31 @@ fn push_number_of(
     Ok(())
 }
 
+/// Appends a symbol, in quotes where it could not stand without.
+fn push_symbol(symbol: &[u8], out: &mut Vec<u8>) -> Result<(), Cause>
+    ensures value { OnOk result (out.new.items ≡ out.old.items ++ shown_symbol symbol.now) }
+    ensures memory { IsOkUnless result Cause.OutOfMemory }
+{
+    if is_bare(symbol) {
+        return push_shown(symbol, out);
+    }
+    out.push(b'"')?;
+    push_shown(symbol, out)?;
+    out.push(b'"')?;
+    Ok(())
+}
+
+/// Appends what stands between symbol and number.
+fn push_gap(spaced: bool, out: &mut Vec<u8>) -> Result<(), Cause>
+    ensures value { OnOk result (out.new.items ≡ out.old.items ++ gap spaced) }
+    ensures memory { IsOkUnless result Cause.OutOfMemory }
+{
+    if spaced {
+        out.push(b' ')?;
+    }
+    Ok(())
+}
+
 /// Appends such a number of a commodity, in its style.
 #[tactic(auto, unfolding(crate::specs::ExactProduct::exact_amount))]
 fn push_product(
@@ -97,12 +123,13 @@ fn push_product(
 {
     let symbol = style.symbol.as_str().as_bytes();
     if style.left {
-        push_shown(symbol, out)?;
+        push_symbol(symbol, out)?;
+        push_gap(style.spaced, out)?;
         return push_number_of(alloc, product, decimals, style.mark, out);
     }
     push_number_of(alloc, product, decimals, style.mark, out)?;
-    out.extend_from_slice(b" ")?;
-    push_shown(symbol, out)
+    push_gap(style.spaced, out)?;
+    push_symbol(symbol, out)
 }
 
 /// Appends the line with the product of an amount and its unit cost, which has so many decimals, in its style.
