@@ -46,7 +46,7 @@ use std::io::{Read, Write};
 use std::mem::ManuallyDrop;
 use treasury_api::{
     Listener, NOTHING_ENTERED, NoListener, commands_law, refusal_law, room_for_line,
-    run_heard_lines, run_law, write_whole,
+    run_heard_lines, run_law, taken_law, write_whole,
 };
 use treasury_files::{Left, wait_for};
 use treasury_laws::{
@@ -56,6 +56,7 @@ use treasury_laws::{
 use treasury_memory::{MemoryStore, open_memory};
 use treasury_spelling::{is_dry_run, is_explained, read_words, value_of};
 use treasury_store::{Store, Treasury};
+use treasury_told::ended::ended_part;
 
 /// How the program ends: its exit status, and what it leaves of the files of a word.
 #[derive(Drop)]
@@ -120,6 +121,7 @@ fn run<R: Read, W: Write, L: Listener>(
     run_law();
     commands_law();
     refusal_law();
+    taken_law();
     headline_law();
     good_law();
     sound_law();
@@ -211,12 +213,12 @@ fn turn_on(rt: &HostRuntime, values: &ArgMatches<'_>) -> Option<File> {
 /// Writes to standard error what is said beside an answer, what a look at the word's files adds to it, and of a dry run
 /// that it was one.
 fn tell(rt: &HostRuntime, values: &ArgMatches<'_>, said: &Said) {
-    let reason = said.reason.as_slice();
+    let reason = ended_part(said.reason.as_slice());
     let looks = looks_of(rt, values, said.answer.as_slice(), reason);
     if let Ok(text) = str::from_utf8(reason) {
         let _ = rt.eprint(text);
     }
-    if let Ok(text) = str::from_utf8(looks.as_slice()) {
+    if let Ok(text) = str::from_utf8(ended_part(looks.as_slice())) {
         let _ = rt.eprint(text);
     }
     if is_dry_run(values) {

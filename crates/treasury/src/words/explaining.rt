@@ -6,6 +6,7 @@ use std::alloc::Global;
 use treasury_api::{Listener, said_beside};
 use treasury_core::State;
 use treasury_requests::Spelled;
+use treasury_told::ended::ended_part;
 use treasury_told::explain::{explain_request, sentence};
 use treasury_told::notes::{HeldBefore, held_before};
 
@@ -70,7 +71,7 @@ impl Listener for Explainer<'_> {
     }
 
     fn end_line(&mut self) {
-        if let Ok(text) = str::from_utf8(self.said.as_slice()) {
+        if let Ok(text) = str::from_utf8(ended_part(self.said.as_slice())) {
             if !text.is_empty() {
                 let line = self.line;
                 let _ = eprintln!(self.rt; "line {line}:");
