@@ -30,6 +30,7 @@ use treasury_client::{Form, Heard, as_text, body_of, call_of, hear_command, hear
 use treasury_files::read_journal;
 use treasury_requests::{Spelled, request_of};
 use treasury_spelling::{fault_of, form_of_word, is_dry_run, port_of, value_of};
+use treasury_told::ended::drop_cut_line;
 use treasury_told::explain::sentence;
 
 /// Services listen on this machine alone.
@@ -342,6 +343,7 @@ fn unanswered(alloc: Global, room: Vec<u8>, port: u16, request: &Spelled, why: U
         Err(_) => refused(alloc, room, cause, HOST, why.reason()),
     };
     let mut reason = said.reason;
+    drop_cut_line(&mut reason);
     let _ = push_line(why_safe(request), &mut reason);
     Said {
         answer: said.answer,
