@@ -5,6 +5,7 @@ pub mod Blank
 pub mod LineKind
 pub mod Comment
 pub mod Date
+pub mod Number
 pub mod Header
 pub mod HeaderView
 pub mod HeaderForm

@@ -14,6 +14,7 @@ ghost use Rattle.journal_lines.specs.Date.{printed_date, two_digits, four_digits
 ghost use Rattle.journal_lines.specs.DateReading.{HasDateParts, day_of, date_of};
 
 use crate::lines::{before, behind};
+use crate::number::{all_digits, number_of};
 use jiff_core::civil::Date;
 use money_core::{Cause, Day};
 use std::alloc::Global;
@@ -64,13 +65,6 @@ fn day_number(year: u16, month: u8, day: u8) -> Option<Day>
     }
 }
 
-/// Whether each byte is a digit.
-fn all_digits(text: &[u8]) -> bool
-    ensures { result ≡ list_all is_ascii_digit text.now }
-{
-    text.iter().all(|b| b.is_ascii_digit())
-}
-
 fn is_separator(byte: u8) -> bool
     ensures { result ≡ is_separator byte }
 {
@@ -82,20 +76,6 @@ fn is_short(text: &[u8]) -> bool
     ensures { result ≡ is_month_or_day text.now }
 {
     (text.len() == 1 || text.len() == 2) && all_digits(text)
-}
-
-/// The number that at most four digits write.
-fn number_of(text: &[u8]) -> u16
-    requires digits { list_all is_ascii_digit text.now ≡ true }
-    requires length { length text.now ≤ 4 }
-    ensures value { result ≡ number_of text.now }
-    ensures bound { result < 10 ^ length text.now }
-{
-    let mut number = 0;
-    for digit in text {
-        number = number * 10 + u16::from(*digit - b'0');
-    }
-    number
 }
 
 /// The number of a month or a day, one digit or two.
@@ -117,7 +97,7 @@ fn year_number(text: &[u8]) -> Option<u16>
     ensures bound { IfSome result (λ n. n ≤ 9999) }
 {
     if all_digits(text) {
-        Some(number_of(text))
+        Some(number_of(text) as u16)
     } else {
         None
     }

@@ -8,6 +8,7 @@ mod date;
 mod header;
 mod line_kind;
 mod lines;
+mod number;
 mod printed;
 mod tag;
 
@@ -21,6 +22,7 @@ pub use header::{
 pub use line_kind::{LineKind, is_block_end, is_remark, kind};
 pub use lines::Lines;
 pub use money_core::{Cause, Day};
+pub use number::read_count;
 pub use printed::{
     comment_len, header_len, is_clean, is_code, is_comment, is_description, print_comment,
     print_header,

@@ -10,7 +10,7 @@ use Rattle.money_core.specs.declared.cause.Cause.TheVariants.{ReservedAccount, L
 use Rattle.money_core.specs.declared.cause.Cause.TheVariants.{UnknownTransfer, WrongBranch, AlreadyReceived, TooEarly}
 use Rattle.money_core.specs.declared.cause.Cause.TheVariants.{LockBack, NothingToClose, BadAccount, BadAmount, BadId}
 use Rattle.money_core.specs.declared.cause.Cause.TheVariants.{OutOfMemory, Store, Closed, Damaged, Request, ReadFault}
-use Rattle.money_core.specs.declared.cause.Cause.TheVariants.{WriteFault, TooMuch}
+use Rattle.money_core.specs.declared.cause.Cause.TheVariants.{WriteFault, TooMuch, Changed}
 
 -- the number of a refusal
 abbrev pub cause_number : Cause → ℕ
@@ -60,6 +60,7 @@ cause_number Request = 44
 cause_number ReadFault = 45
 cause_number WriteFault = 46
 cause_number TooMuch = 47
+cause_number Changed = 48
 
 -- the name of a refusal
 abbrev pub cause_name : Cause → List ℕ
@@ -109,3 +110,4 @@ cause_name Request = codes "Request"
 cause_name ReadFault = codes "ReadFault"
 cause_name WriteFault = codes "WriteFault"
 cause_name TooMuch = codes "TooMuch"
+cause_name Changed = codes "Changed"

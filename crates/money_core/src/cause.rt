@@ -101,6 +101,8 @@ pub enum Cause {
     WriteFault,
     /// The amount of a receipt is more than what is left, or in another commodity.
     TooMuch,
+    /// The branch has another number of entries than the request expects.
+    Changed,
 }
 
 impl Cause {
@@ -155,6 +157,7 @@ impl Cause {
             Cause::ReadFault => 45,
             Cause::WriteFault => 46,
             Cause::TooMuch => 47,
+            Cause::Changed => 48,
         }
     }
 
@@ -209,6 +212,7 @@ impl Cause {
             Cause::ReadFault => "ReadFault",
             Cause::WriteFault => "WriteFault",
             Cause::TooMuch => "TooMuch",
+            Cause::Changed => "Changed",
         }
     }
 }
