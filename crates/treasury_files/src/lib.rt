@@ -20,5 +20,5 @@ pub use file::{
 };
 pub use left::Left;
 pub use looks::{why_unread, why_unused};
-pub use waiting::wait_for;
+pub use waiting::{Turn, wait_for};
 pub use watch::{Guarded, Noting, Sight, Watch};

@@ -19,6 +19,13 @@ const SQLITE_LOCK_LEN: u64 = 512;
 
 const TURN_LOCK: u64 = SQLITE_LOCK + 4_096;
 
+/// A turn on a file that no other program uses. While it is held, no other treasury takes its turn.
+#[derive(Drop)]
+pub struct Turn {
+    /// Only held: nobody else can read or write by it.
+    _file: File,
+}
+
 /// Whether the turn is had.
 fn takes_turn(file: &File) -> bool {
     os::try_lock_range(file.as_raw_fd(), RangeLock::Exclusive, TURN_LOCK, 1) == 0
@@ -67,9 +74,8 @@ pub fn is_in_use(rt: &HostRuntime, path: &str) -> bool {
 
 /// Waits until no other program uses the file, for at most five seconds. Nothing is read or written.
 ///
-/// While the answer is held no other treasury takes its turn. None where there is no such file, or it stays in use: its
-/// opening says why then.
-pub fn wait_for(rt: &HostRuntime, path: &str) -> Option<File> {
+/// None where there is no such file, or it stays in use: its opening says why then.
+pub fn wait_for(rt: &HostRuntime, path: &str) -> Option<Turn> {
     let Some(file) = opened(rt, path) else {
         return None;
     };
@@ -77,7 +83,7 @@ pub fn wait_for(rt: &HostRuntime, path: &str) -> Option<File> {
     for _ in 0..TRIES {
         has_turn = has_turn || takes_turn(&file);
         if has_turn && is_free(&file) {
-            return Some(file);
+            return Some(Turn { _file: file });
         }
         thread::sleep(rt, Duration::from_millis(PAUSE_MILLIS));
     }
