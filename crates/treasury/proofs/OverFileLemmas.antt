@@ -21,6 +21,7 @@ use Rattle.book_core.specs.declared.refusal.Refusal.TheVariants.{Plain}
 use Rattle.treasury_state.specs.Federation.{Federation}
 use Rattle.treasury_state.specs.Rows.{rows}
 use Rattle.treasury_store.specs.Treasury.{Treasury}
+use Rattle.treasury_requests.specs.declared.request.Terms.{Terms}
 use Rattle.treasury_requests.specs.declared.request.Spelled.{Spelled}
 use Rattle.treasury_api.specs.Answer.{answer_text}
 use Rattle.treasury_api.specs.Asked.{AsksOf}
@@ -37,7 +38,7 @@ use Rattle.treasury_files.specs.Left.{HoldsOf, HaveRows, KeepsFile}
 use Rattle.treasury.specs.At.{SaysAt}
 use Rattle.treasury.specs.OverFile.{Spoken, IsRefusedBy, IsFileRefused, AnswersOver}
 use Rattle.treasury_files.specs.InFile.{ShowsState, LeavesState}
-use Rattle.treasury_spelling.specs.Spelling.{is_dry_run, given}
+use Rattle.treasury_spelling.specs.Spelling.{terms_in, given}
 use Rattle.treasury_requests.specs.declared.request.Request.TheVariants.{Import}
 use Rattle.treasury.specs.OverFile.{HaveRowsBehind, MayHaveDone, Tells, SaysOver, SaysToJournal, SaysToWord, IsTold}
 use Rattle.treasury.specs.OverFile.{has_no_memory, has_no_treasury, cannot_be_used}
@@ -137,7 +138,7 @@ module _ {D : Type 0} (g : disk.Ghosts D) where
             } in
             let of = started.starts.of before (committed_in g image started.opened started.on first) f shows in
             let answered = (says.answers last f of).1.1.1.0 in
-            let asks = subst (λ (failed : Bool). AsksOf failed f.styles request answered.asked) started.starts.unfailed
+            let asks = subst (λ (failed : Bool). AsksOf failed f request answered.asked) started.starts.unfailed
             answered.asks in
             let asked = answered.asked in
             let r = reply_to f asked in
@@ -216,7 +217,7 @@ module _ {D : Type 0} (g : disk.Ghosts D) where
   import_ends image word values said left is (inr (branch, has, at, inl (refused, none))) =
       has_no_journal is refused none
   import_ends image word values said left is (inr (branch, has, at, inr (journal, read, says))) =
-      has_request (given (is_dry_run values) (Import branch journal)) (inl (is, (branch, journal, at, refl))) says
+      has_request (given (terms_in values) (Import branch journal)) (inl (is, (branch, journal, at, refl))) says
 
   pub form_ends : (image : Image) (word : List ℕ) (values : List Row) (said : Spoken) (left : Left D g)
       → word ≢ codes "init" → word ≢ codes "import" → SaysToForm g image word values said left
@@ -224,18 +225,18 @@ module _ {D : Type 0} (g : disk.Ghosts D) where
   form_ends image word values said left first second (inl (none, refused)) =
       asks_nothing (inr (first, second, none)) refused
   form_ends image word values said left first second (inr (form, spells, says)) =
-      has_request (given (is_dry_run values) form) (inr (first, second, (form, spells, refl))) says
+      has_request (given (terms_in values) form) (inr (first, second, (form, spells, refl))) says
 
   -- a journal cannot be read, and no file was opened
-  pub journal_before : (image : Image) (branch : List ℕ) (dry : Bool) (has : Option (List ℕ)) (said : Said)
+  pub journal_before : (image : Image) (branch : List ℕ) (terms : Terms) (has : Option (List ℕ)) (said : Said)
       (cause : Cause) (a : Answered D g) → a ≡ record { said = said; left = Untouched }
       → (cause ≡ ReadFault) ⊎ (cause ≡ OutOfMemory) → IsRefusedBy cause (spoken said)
-      → SaysToJournal g image branch dry has (spoken a.said) a.left
-  journal_before image branch dry has said cause a is (inl fault) refused =
-      subst (λ (b : Answered D g). SaysToJournal g image branch dry has (spoken b.said) b.left) (sym is)
+      → SaysToJournal g image branch terms has (spoken a.said) a.left
+  journal_before image branch terms has said cause a is (inl fault) refused =
+      subst (λ (b : Answered D g). SaysToJournal g image branch terms has (spoken b.said) b.left) (sym is)
       (inl (inl (subst (λ (c : Cause). IsRefusedBy c (spoken said)) fault refused), refl))
-  journal_before image branch dry has said cause a is (inr memory) refused =
-      subst (λ (b : Answered D g). SaysToJournal g image branch dry has (spoken b.said) b.left) (sym is)
+  journal_before image branch terms has said cause a is (inr memory) refused =
+      subst (λ (b : Answered D g). SaysToJournal g image branch terms has (spoken b.said) b.left) (sym is)
       (inl (inr (subst (λ (c : Cause). IsRefusedBy c (spoken said)) memory refused), refl))
 
   -- a word is told 40

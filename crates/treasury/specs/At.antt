@@ -6,6 +6,7 @@ use Rattle.std.specs.Io.KnownBytes.{Appends}
 use Rattle.clap.specs.Walk.{Row, first_of}
 use Rattle.money_core.specs.declared.cause.Cause.{Cause}
 use Rattle.money_core.specs.declared.cause.Cause.TheVariants.{OutOfMemory, ReadFault, Request as NoRequest}
+use Rattle.treasury_requests.specs.declared.request.Terms.{Terms}
 use Rattle.treasury_requests.specs.declared.request.Spelled.{Spelled}
 use Rattle.treasury_requests.specs.declared.request.Request.{Request}
 use Rattle.treasury_requests.specs.declared.request.Request.TheVariants.{Import}
@@ -13,7 +14,7 @@ use Rattle.treasury_requests.specs.Request.{is_report, spelled}
 use Rattle.treasury_client.specs.declared.call.Form.{Form}
 use Rattle.treasury_client.specs.Sending.{IsSendable, call_text}
 use Rattle.treasury_client.specs.Reply.{SaysToCommand, SaysToReport}
-use Rattle.treasury_spelling.specs.Spelling.{request_in, is_dry_run, given, HasPort, LacksPort}
+use Rattle.treasury_spelling.specs.Spelling.{request_in, terms_in, says_no_count, given, HasPort, LacksPort}
 use Rattle.treasury.specs.declared.words.at.Unheard.{Unheard}
 use Rattle.treasury.specs.declared.words.at.Unheard.TheVariants.{NoMemory}
 use Rattle.treasury.specs.Spoken.{Spoken, IsRefusedBy, IsJournalRefused}
@@ -54,27 +55,28 @@ SaysFrom request said =
     ⊎ (IsRefusedBy ReadFault said ⊎ ((came : List ℕ) × SaysToEither (is_report request.request) came said))
 
 -- The same of `import` with the bytes of its journal. What is sent of them is a text: they, if they are one.
-abbrev pub SaysToBytesAt : List ℕ → Bool → List ℕ → Spoken → Type 0
-SaysToBytesAt branch dry journal said =
+abbrev pub SaysToBytesAt : List ℕ → Terms → List ℕ → Spoken → Type 0
+SaysToBytesAt branch terms journal said =
     IsRefusedBy OutOfMemory said
-    ⊎ ((sent : List ℕ) × (is_utf8 journal ≡ true → sent ≡ journal) × SaysFrom (given dry (Import branch sent)) said)
+    ⊎ ((sent : List ℕ) × (is_utf8 journal ≡ true → sent ≡ journal) × SaysFrom (given terms (Import branch sent)) said)
 
 -- and of `import` by its values: its journal is read first, as over a file
 
 abbrev pub SaysToImportAt : List Row → Spoken → Type 0
 SaysToImportAt values said =
-    (((first_of (codes "branch") values ≡ None) ⊎ (first_of (codes "journal") values ≡ None))
+    (((first_of (codes "branch") values ≡ None) ⊎ ((first_of (codes "journal") values ≡ None)
+    ⊎ (says_no_count values ≡ true)))
     × IsRefusedBy NoRequest said)
     ⊎ (IsJournalRefused said
     ⊎ ((branch : List ℕ) × (journal : List ℕ) × (first_of (codes "branch") values ≡ Some branch)
-    × SaysToBytesAt branch (is_dry_run values) journal said))
+    × SaysToBytesAt branch (terms_in values) journal said))
 
 -- and of a word whose values spell its request
 abbrev pub SaysToFormAt : List ℕ → List Row → Spoken → Type 0
 SaysToFormAt word values said =
     ((request_in word values ≡ None) × IsRefusedBy NoRequest said)
     ⊎ ((request : Request) × (request_in word values ≡ Some request)
-    × SaysFrom (given (is_dry_run values) request) said)
+    × SaysFrom (given (terms_in values) request) said)
 
 -- any word, by its values: without a port it is refused, and only with one may a reply be told
 abbrev pub SaysAt : List ℕ → List Row → Spoken → Type 0

@@ -24,13 +24,14 @@ use Rattle.treasury_state.specs.Rows.{rows}
 use Rattle.treasury_core.specs.declared.command.Answer.TheVariants.{Done}
 use Rattle.treasury_core.specs.Run.{Turn}
 use Rattle.treasury_tables.specs.Rows.{AreTreesOf}
+use Rattle.treasury_requests.specs.declared.request.Terms.{Terms}
 use Rattle.treasury_requests.specs.declared.request.Spelled.{Spelled}
 use Rattle.treasury_requests.specs.declared.request.Request.{Request}
 use Rattle.treasury_requests.specs.declared.request.Request.TheVariants.{Import}
 use Rattle.treasury_api.specs.Answer.{answer_text}
 use Rattle.treasury_api.specs.Step.{Standing}
 use Rattle.treasury_api.specs.OneRequest.{command_of}
-use Rattle.treasury_spelling.specs.Spelling.{request_in, is_dry_run, given}
+use Rattle.treasury_spelling.specs.Spelling.{request_in, terms_in, says_no_count, given}
 use Rattle.treasury.specs.Word.{AnswersWord, Told}
 pub use Rattle.treasury.specs.Spoken.{Spoken, IsRefusedBy, IsFileRefused, IsJournalRefused, Tells}
 use Rattle.treasury.specs.At.{SaysAt}
@@ -51,15 +52,16 @@ abbrev pub WordAsks : List ℕ → List Row → Spelled → Type 0
 WordAsks word values request =
     ((word ≡ codes "import") × ((branch : List ℕ) × (journal : List ℕ)
     × (first_of (codes "branch") values ≡ Some branch)
-    × (request ≡ given (is_dry_run values) (Import branch journal))))
+    × (request ≡ given (terms_in values) (Import branch journal))))
     ⊎ ((word ≢ codes "init") × (word ≢ codes "import") × ((form : Request) × (request_in word values ≡ Some form)
-    × (request ≡ given (is_dry_run values) form)))
+    × (request ≡ given (terms_in values) form)))
 
--- they spell none: a branch or a journal is not given, or another value is missing or none
+-- they spell none: a branch or a journal is not given, a count is none, or another value is missing or none
 abbrev pub WordAsksNothing : List ℕ → List Row → Type 0
 WordAsksNothing word values =
     ((word ≡ codes "import")
-    × ((first_of (codes "branch") values ≡ None) ⊎ (first_of (codes "journal") values ≡ None)))
+    × ((first_of (codes "branch") values ≡ None) ⊎ ((first_of (codes "journal") values ≡ None)
+    ⊎ (says_no_count values ≡ true))))
     ⊎ ((word ≢ codes "init") × (word ≢ codes "import") × (request_in word values ≡ None))
 
 -- ---- what is said over a file
@@ -117,11 +119,11 @@ module _ {D : Type 0} (g : disk.Ghosts D) where
 
   -- The same of `import`, whose journal is read first: it is refused, or what its reader has, where that is known, up
   -- to the limit.
-  abbrev pub SaysToJournal : Image → List ℕ → Bool → Option (List ℕ) → Spoken → Left D g → Type 0
-  SaysToJournal image branch dry has said left =
+  abbrev pub SaysToJournal : Image → List ℕ → Terms → Option (List ℕ) → Spoken → Left D g → Type 0
+  SaysToJournal image branch terms has said left =
       (IsJournalRefused said × (left ≡ Untouched))
       ⊎ ((journal : List ℕ) × IfSome has (λ bytes. journal ≡ take most_journal bytes)
-      × SaysOver image (given dry (Import branch journal)) said left)
+      × SaysOver image (given terms (Import branch journal)) said left)
 
   -- How any word but `run` ends, by its values.
   pub data SaysToWord (image : Image) (word : List ℕ) (values : List Row) (said : Spoken) (left : Left D g)

@@ -1,5 +1,5 @@
 -- Mirrors code: how a word over a database file is answered, part by part.
-use Rattle.std.specs.Prelude.{◌≡◌, ◌≢◌, ◌≤◌, ◌⊎◌, ℕ, List, [], Option, None, Some, codes, vec_capacity}
+use Rattle.std.specs.Prelude.{◌≡◌, ◌≢◌, ◌≤◌, ◌⊎◌, ℕ, true, List, [], Option, None, Some, codes, vec_capacity}
 use Rattle.std.specs.Global.{Vec}
 use Rattle.clap.specs.declared.error.kind.ErrorKind.{ErrorKind}
 use Rattle.clap.specs.declared.error.kind.ErrorKind.TheVariants.{OutOfMemory as NoMemory, DisplayHelp, DisplayVersion}
@@ -13,7 +13,7 @@ use Rattle.clap.specs.Walk.{Row, first_of}
 use Rattle.sqlite_wal.specs.Recovery.{Image}
 use Rattle.money_core.specs.declared.cause.Cause.TheVariants.{Request as NoRequest}
 use Rattle.treasury_requests.specs.declared.request.Request.{Request}
-use Rattle.treasury_spelling.specs.Spelling.{request_in, is_dry_run, given}
+use Rattle.treasury_spelling.specs.Spelling.{request_in, terms_in, says_no_count, given}
 use Rattle.treasury.specs.OverFile.{Spoken, IsRefusedBefore, SaysOver, SaysToJournal}
 
 -- what is said to a word, less the reason
@@ -35,17 +35,18 @@ IsRoom room = (room.items ≡ []) × (64 ≤ vec_capacity room)
 -- what is said to `import`, by its values: its journal is read first
 abbrev pub SaysToImport : {D : Type 0} → (g : disk.Ghosts D) → Image → List Row → Spoken → Left D g → Type 0
 SaysToImport g image values said left =
-    (((first_of (codes "branch") values ≡ None) ⊎ (first_of (codes "journal") values ≡ None))
+    (((first_of (codes "branch") values ≡ None) ⊎ ((first_of (codes "journal") values ≡ None)
+    ⊎ (says_no_count values ≡ true)))
     × IsRefusedBefore g NoRequest said left)
     ⊎ ((branch : List ℕ) × (has : Option (List ℕ)) × (first_of (codes "branch") values ≡ Some branch)
-    × SaysToJournal g image branch (is_dry_run values) has said left)
+    × SaysToJournal g image branch (terms_in values) has said left)
 
 -- and to a word whose values spell its request
 abbrev pub SaysToForm : {D : Type 0} → (g : disk.Ghosts D) → Image → List ℕ → List Row → Spoken → Left D g → Type 0
 SaysToForm g image word values said left =
     ((request_in word values ≡ None) × IsRefusedBefore g NoRequest said left)
     ⊎ ((request : Request) × (request_in word values ≡ Some request)
-    × SaysOver g image (given (is_dry_run values) request) said left)
+    × SaysOver g image (given (terms_in values) request) said left)
 
 -- what is left of a file that could be closed, or not
 abbrev pub IsClosedOrShut : {D : Type 0} {g : disk.Ghosts D} → Left D g → Type 0

@@ -44,11 +44,9 @@ abbrev pub LacksNumber : ℕ → List ℕ → List Row → Type 0
 LacksNumber bits name values =
     (one_of name values ≡ None) ⊎ ((text : List ℕ) × (one_of name values ≡ Some text) × (IsNumber bits text → ⊥))
 
--- the file, the port or the number of connections is not given
+-- the file or the port is not given
 abbrev pub LacksValue : List Row → Type 0
-LacksValue values =
-    (first_of (codes "db") values ≡ None)
-    ⊎ (LacksNumber 16 (codes "port") values ⊎ LacksNumber 32 (codes "requests") values)
+LacksValue values = (first_of (codes "db") values ≡ None) ⊎ LacksNumber 16 (codes "port") values
 
 -- ---- what is said
 

@@ -41,20 +41,19 @@ use money_core::Cause;
 use sqlite::{FileFrom, Start};
 use sqlite_disk::Disk;
 use std::alloc::Global;
-use std::fs::File;
 use std::io::{Read, Write};
 use std::mem::ManuallyDrop;
 use treasury_api::{
     Listener, NOTHING_ENTERED, NoListener, commands_law, refusal_law, room_for_line,
     run_heard_lines, run_law, taken_law, write_whole,
 };
-use treasury_files::{Left, wait_for};
+use treasury_files::{Left, Turn, wait_for};
 use treasury_laws::{
     accepted_closing_law, good_law, growing_law, headline_law, late_entry_law, lock_law,
     records_law, sound_law,
 };
 use treasury_memory::{MemoryStore, open_memory};
-use treasury_spelling::{is_dry_run, is_explained, read_words, value_of};
+use treasury_spelling::{is_explained, read_words, terms_of, value_of};
 use treasury_store::{Store, Treasury};
 use treasury_told::ended::ended_part;
 
@@ -205,7 +204,7 @@ fn write_answer<W: Write>(rt: &HostRuntime, answer: &[u8], is_refused: bool, out
 }
 
 /// The file that a word is over, once no other program uses it; none where it stays in use, or is not there.
-fn turn_on(rt: &HostRuntime, values: &ArgMatches<'_>) -> Option<File> {
+fn turn_on(rt: &HostRuntime, values: &ArgMatches<'_>) -> Option<Turn> {
     let path = value_of(values, "db")?;
     wait_for(rt, path)
 }
@@ -221,7 +220,7 @@ fn tell(rt: &HostRuntime, values: &ArgMatches<'_>, said: &Said) {
     if let Ok(text) = str::from_utf8(ended_part(looks.as_slice())) {
         let _ = rt.eprint(text);
     }
-    if is_dry_run(values) {
+    if terms_of(values).is_dry_run {
         let _ = rt.eprint(NOTHING_ENTERED);
     }
 }

@@ -5,7 +5,7 @@ use Rattle.std.specs.Prelude.{◌↔◌}
 use Rattle.money_core.specs.declared.style.Style.{Style}
 use Rattle.money_core.specs.declared.cause.Cause.{Cause}
 use Rattle.money_core.specs.declared.cause.Cause.TheVariants.{OutOfMemory, UnknownBranch, Amount, UnknownCommodity}
-use Rattle.money_core.specs.declared.cause.Cause.TheVariants.{Decimals, Closed, Damaged}
+use Rattle.money_core.specs.declared.cause.Cause.TheVariants.{Decimals, Closed, Damaged, Changed}
 use Rattle.money_core.specs.declared.cause.Fault.{Fault}
 use Rattle.money_core.specs.Sampling.{style_of}
 use Rattle.money_core.specs.Reading.{amount}
@@ -39,7 +39,7 @@ use Rattle.treasury_api.specs.declared.asking.Asked.{Asked}
 use Rattle.treasury_api.specs.declared.asking.Asked.TheVariants.{Command, DryRun, Report}
 use Rattle.treasury_api.specs.declared.report.Report.TheVariants as report
 use Rattle.treasury_api.specs.Asked.{asked_by_sample, asked_by_amount, asked_by_part, asked_by_receipt, cut_list}
-use Rattle.treasury_api.specs.Asked.{JournalAsks, RequestAsks, or_dry_run, SpelledAsks}
+use Rattle.treasury_api.specs.Asked.{JournalAsks, RequestAsks, or_dry_run, unless_changed, SpelledAsks}
 use Rattle.treasury_api.specs.declared.report.Report.{Report as AnyReport}
 use Rattle.treasury_api.specs.Report.{report_in, has_its_branch}
 use Rattle.treasury_api.specs.Replied.{IsRepliedIn, IsAnsweredIn}
@@ -88,11 +88,11 @@ request_asks law styles ForCommodities = (Ok (Report report.Commodities), refl)
 request_asks law styles (ForAccounts name) = (Ok (Report (report.Accounts name)), refl)
 request_asks law styles (ForTransfers day) = (Ok (Report (report.Transfers day)), refl)
 
-pub spelled_asks : ReadsAll → (styles : List Style) (request : Spelled)
-    → (asked : Result Asked Refusal) × SpelledAsks styles request asked
-spelled_asks law styles request =
-    let said = request_asks law styles request.request in
-    (or_dry_run request.is_dry_run said.0, (said.0, (said.1, refl)))
+pub spelled_asks : ReadsAll → (f : Federation) (request : Spelled)
+    → (asked : Result Asked Refusal) × SpelledAsks f request asked
+spelled_asks law f request =
+    let said = request_asks law f.styles request.request in
+    (or_dry_run request.terms.is_dry_run (unless_changed f request said.0), (said.0, (said.1, refl)))
 
 -- ---- a treasury that holds its state, or does not
 
@@ -120,7 +120,7 @@ answered_unheld law g true new f request cause held result before written is ref
 answered_unheld {form = form} law g false new f request cause held result before written is refuses of undamaged answers
     closed
     same =
-    let asked = spelled_asks law f.styles request in (
+    let asked = spelled_asks law f request in (
       asked.0,
       (
         asked.1,
@@ -152,30 +152,28 @@ held_unfailed true x held is closed = absurd (let k = (closed cc).0 in cc)
 pub answered_by_reply : {S T : Type 0} {form : Form} (g : Ghosts S) (failed : Bool) (new : Treasury S) (f : Federation)
     (request : Spelled)
     (asked : Result Asked Refusal) (result : Result T Refusal) (before written : List ℕ)
-    → failed ≡ false → SpelledAsks f.styles request asked → IsRepliedIn form g false new f asked result before written
+    → failed ≡ false → SpelledAsks f request asked → IsRepliedIn form g false new f asked result before written
     → IsAnsweredIn form g failed new f request result before written
 answered_by_reply {form = form} g failed new f request asked result before written unfailed asks replied =
     subst (λ (b : Bool). IsAnsweredIn form g b new f request result before written) (sym unfailed)
     (asked, (asks, replied))
 
 -- what is asked, where the texts are read
-pub SpelledAsks_of_same : (styles others : List Style) (request : Spelled) (asked other : Asked) → styles ≡ others
-    → asked ≡ other → OrMemory (SpelledAsks styles request) (Ok asked) → SpelledAsks others request (Ok other)
-SpelledAsks_of_same styles others request asked other same is (inl memory) = absurd cc
-SpelledAsks_of_same styles others request asked other same is (inr asks) =
-    subst (λ (x : List Style). SpelledAsks x request (Ok other)) same
-    (subst (λ (x : Asked). SpelledAsks styles request (Ok x)) is asks)
+pub SpelledAsks_of_same : (f g : Federation) (request : Spelled) (asked other : Asked) → f ≡ g → asked ≡ other
+    → OrMemory (SpelledAsks f request) (Ok asked) → SpelledAsks g request (Ok other)
+SpelledAsks_of_same f g request asked other same is (inl memory) = absurd cc
+SpelledAsks_of_same f g request asked other same is (inr asks) =
+    subst (λ (x : Federation). SpelledAsks x request (Ok other)) same
+    (subst (λ (x : Asked). SpelledAsks f request (Ok x)) is asks)
 
 -- a command that was read can be performed
-pub dry_run_fits : (styles others : List Style) (asked : Asked) (c : AnyCommand) → styles ≡ others → asked ≡ DryRun c
-    → IsReady styles (Ok asked) → Fits others c
-dry_run_fits styles others asked c same is ready =
-    subst (λ (x : List Style). Fits x c) same (subst (λ (x : Asked). IsReady styles (Ok x)) is ready)
+pub dry_run_fits : (styles : List Style) (asked : Asked) (c : AnyCommand) → asked ≡ DryRun c
+    → IsReady styles (Ok asked) → Fits styles c
+dry_run_fits styles asked c is ready = subst (λ (x : Asked). IsReady styles (Ok x)) is ready
 
-pub command_fits : (styles others : List Style) (asked : Asked) (c : AnyCommand) → styles ≡ others → asked ≡ Command c
-    → IsReady styles (Ok asked) → Fits others c
-command_fits styles others asked c same is ready =
-    subst (λ (x : List Style). Fits x c) same (subst (λ (x : Asked). IsReady styles (Ok x)) is ready)
+pub command_fits : (styles : List Style) (asked : Asked) (c : AnyCommand) → asked ≡ Command c
+    → IsReady styles (Ok asked) → Fits styles c
+command_fits styles asked c is ready = subst (λ (x : Asked). IsReady styles (Ok x)) is ready
 
 amount_stays : (cause : Cause) → (cause ≡ Amount) ⊎ (cause ≡ UnknownCommodity) ⊎ (cause ≡ Decimals)
     → is_failure (Err (Plain cause)) ≡ false
@@ -225,23 +223,29 @@ texts_stay styles ForCommodities refusal asks = absurd cc
 texts_stay styles (ForAccounts name) refusal asks = absurd cc
 texts_stay styles (ForTransfers day) refusal asks = absurd cc
 
--- a refusal of the texts, or want of memory for them
+-- nor where the branch has changed
+asked_stays : (f : Federation) (request : Spelled) (refusal : Refusal)
+    → RequestAsks f.styles request.request (Err refusal) ⊎ (refusal ≡ Plain Changed) → is_failure (Err refusal) ≡ false
+asked_stays f request refusal (inl asks) = texts_stay f.styles request.request refusal asks
+asked_stays f request refusal (inr changed) = ap (λ (x : Refusal). is_failure (Err x)) changed
+
+-- a refusal of the texts, or since the branch has changed, or want of memory for them
 pub refused_texts : {S T : Type 0} {form : Form} → ReadsAll
     → (g : Ghosts S) (failed : Bool) (new : Treasury S) (f : Federation) (request : Spelled) (refusal : Refusal)
     (result : Result T Refusal) (before written : List ℕ)
-    → failed ≡ false → OrMemory (SpelledAsks f.styles request) (Err refusal) → result ≡ Err refusal
+    → failed ≡ false → OrMemory (SpelledAsks f request) (Err refusal) → result ≡ Err refusal
     → IsTreasuryOf g new f → new.store.failed ≡ false → written ≡ before
     → IsAnsweredIn form g failed new f request result before written
 refused_texts law g failed new f request refusal result before written unfailed (inl memory) is of still same =
     let k : refusal ≡ Plain OutOfMemory = cc in
-    let asked = spelled_asks law f.styles request in
+    let asked = spelled_asks law f request in
     answered_by_reply g failed new f request asked.0 result before written unfailed asked.1
     (refusal_replied g false new f asked.0 refusal result before written is (inr (inl (ap (λ (x : Refusal). Err x) k)))
     of (still ∙ ap (λ (x : Refusal). is_failure (Err x)) (sym k)) same)
 refused_texts law g failed new f request refusal result before written unfailed (inr asks) is of still same =
     answered_by_reply g failed new f request (Err refusal) result before written unfailed asks
     (refusal_replied g false new f (Err refusal) refusal result before written is (inl refl)
-    of (still ∙ sym (texts_stay f.styles request.request refusal (spelled_refusal f.styles request refusal asks))) same)
+    of (still ∙ sym (asked_stays f request refusal (spelled_refusal f request refusal asks))) same)
 
 -- ---- a report
 

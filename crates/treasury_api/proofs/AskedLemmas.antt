@@ -5,7 +5,6 @@ use Rattle.std.proofs.Common.{subst, inl, inr, if◌then◌else◌, option_map, 
 use Rattle.std.specs.Prelude.{codes}
 use Rattle.std.specs.Str.{is_utf8}
 use Rattle.serde_json.specs.Data.{Data}
-use Rattle.serde_json.specs.Find.{get, as_str}
 use Rattle.serde_json.specs.Read.{read}
 use Rattle.money_core.specs.declared.day.Day.{Day}
 use Rattle.money_core.specs.declared.style.Style.{Style}
@@ -28,6 +27,8 @@ use Rattle.treasury_core.specs.declared.command.Command.TheVariants as cmd
 use Rattle.treasury_core.specs.Fits.{IsFile, Fits}
 use Rattle.treasury_requests.specs.declared.request.Spelled.{Spelled}
 use Rattle.treasury_requests.specs.declared.request.Request.{Request}
+use Rattle.treasury_requests.specs.declared.request.Terms.{Terms}
+use Rattle.treasury_state.specs.Federation.{Federation}
 use Rattle.treasury_requests.specs.declared.request.Request.TheVariants.{Branch as ForBranch, Commodity as ForCommodity}
 use Rattle.treasury_requests.specs.declared.request.Request.TheVariants.{Import as ForImport, Dispatch as ForDispatch}
 use Rattle.treasury_requests.specs.declared.request.Request.TheVariants.{Receive as ForReceive, Lock as ForLock}
@@ -43,8 +44,8 @@ use Rattle.treasury_requests.specs.Request.{text_at, day_at, is_form, dispatch_a
 use Rattle.treasury_requests.specs.Request.{register_at}
 use Rattle.treasury_requests.specs.Request.{tagged_at, one_chosen, close_at, chosen_at, both_at, report_form, list_form}
 use Rattle.treasury_requests.specs.Request.{close_form}
-use Rattle.treasury_requests.specs.Request.{form, request_of, spelled, HasDayNumbers, dry_run_key, yes_or_no}
-use Rattle.treasury_requests.specs.Request.{in_earnest, with_key, spelled_by, is_report}
+use Rattle.treasury_requests.specs.Request.{form, request_of, spelled, HasDayNumbers}
+use Rattle.treasury_requests.specs.Request.{spelled_by, terms_at, may_have_terms}
 use Rattle.treasury_api.proofs.SpelledLemmas.{spelled_command}
 use Rattle.treasury_api.specs.Asked.{asked_by_sample, asked_by_amount, asked_by_part, cut_list, RequestAsks, Asks}
 
@@ -282,29 +283,25 @@ form_days word d request e =
     let l = by_day (codes "day") d (ForLock b.0) request b.1 in subst HasDayNumbers l.1.0 l.1.1) (λ e7.
     close_form_days word d request e7)))))))
 
-key_days : (request : Request) (dry report : Bool) (spelled : Spelled) → HasDayNumbers request
-    → (if report then None else Some (record { request = request; is_dry_run = dry })) ≡ Some spelled
-    → HasDayNumbers spelled.request
-key_days request dry true spelled days e = absurd cc
-key_days request dry false spelled days e =
-    subst (λ (s : Spelled). HasDayNumbers s.request)
-    (same (record { request = request; is_dry_run = dry }) spelled e) days
+-- a request keeps its days on any terms
+terms_days : (request : Request) (terms : Option Terms) (spelled : Spelled) → HasDayNumbers request
+    → option_map (λ t. record { request = request; terms = t }) terms ≡ Some spelled → HasDayNumbers spelled.request
+terms_days request None spelled days e = absurd cc
+terms_days request (Some terms) spelled days e =
+    subst (λ (s : Spelled). HasDayNumbers s.request) (same (record { request = request; terms = terms }) spelled e) days
   where
     same : (a b : Spelled) → Some a ≡ Some b → a ≡ b
     same a b e = cc
 
-by_key_days : (said : Option Data) (request : Request) (spelled : Spelled) → HasDayNumbers request
-    → spelled_by said request ≡ Some spelled → HasDayNumbers spelled.request
-by_key_days None request spelled days e =
-    subst (λ (s : Spelled). HasDayNumbers s.request) (same (in_earnest request) spelled e) days
+by_key_days : (d : Data) (request : Request) (spelled : Spelled) → HasDayNumbers request
+    → spelled_by d request ≡ Some spelled → HasDayNumbers spelled.request
+by_key_days d request spelled days e = by_test (may_have_terms d request) e
   where
-    same : (a b : Spelled) → Some a ≡ Some b → a ≡ b
-    same a b e = cc
-by_key_days (Some d) request spelled days e = by_choice (option_and_then yes_or_no (as_str d)) e
-  where
-    by_choice : (o : Option Bool) → option_and_then (with_key request) o ≡ Some spelled → HasDayNumbers spelled.request
-    by_choice None e = absurd cc
-    by_choice (Some dry) e = key_days request dry (is_report request) spelled days e
+    by_test : (t : Bool)
+        → (if t then option_map (λ terms. record { request = request; terms = terms }) (terms_at d) else None)
+        ≡ Some spelled → HasDayNumbers spelled.request
+    by_test true e = terms_days request (terms_at d) spelled days e
+    by_test false e = absurd cc
 
 request_days : (o : Option Data) (spelled : Spelled) → option_and_then request_of o ≡ Some spelled
     → HasDayNumbers spelled.request
@@ -312,13 +309,13 @@ request_days None spelled e = absurd cc
 request_days (Some d) spelled e = by_word (text_at (codes "do") d) e
   where
     by_form : (word : List ℕ) (f : Option Request) → form word d ≡ f
-        → option_and_then (spelled_by (get dry_run_key d)) f ≡ Some spelled → HasDayNumbers spelled.request
+        → option_and_then (spelled_by d) f ≡ Some spelled → HasDayNumbers spelled.request
     by_form word None is e = absurd cc
     by_form word (Some request) is e =
-        by_key_days (get dry_run_key d) request spelled (form_days word d request is) e
+        by_key_days d request spelled (form_days word d request is) e
 
     by_word : (w : Option (List ℕ))
-        → option_and_then (λ word. option_and_then (spelled_by (get dry_run_key d)) (form word d)) w ≡ Some spelled
+        → option_and_then (λ word. option_and_then (spelled_by d) (form word d)) w ≡ Some spelled
         → HasDayNumbers spelled.request
     by_word None e = absurd cc
     by_word (Some word) e = by_form word (form word d) refl e
@@ -400,10 +397,9 @@ request_fits styles ForCommodities c days h = absurd cc
 request_fits styles (ForAccounts name) c days h = absurd cc
 request_fits styles (ForTransfers day) c days h = absurd cc
 
-pub asked_fits : (failed : Bool) (styles : List Style) (line : List ℕ) (c : AnyCommand)
-    → Asks failed styles line (Ok (Command c)) → Fits styles c
-asked_fits true styles line c (inl asks) = absurd (let e = asks.1.1 in cc)
-asked_fits false styles line c (inl asks) =
-    request_fits styles asks.0.request c (spelled_days line asks.0 asks.1.0)
-    (spelled_command styles asks.0 c asks.1.1)
-asked_fits failed styles line c (inr none) = absurd (let e = none.1 in cc)
+pub asked_fits : (failed : Bool) (f : Federation) (line : List ℕ) (c : AnyCommand)
+    → Asks failed f line (Ok (Command c)) → Fits f.styles c
+asked_fits true f line c (inl asks) = absurd (let e = asks.1.1 in cc)
+asked_fits false f line c (inl asks) =
+    request_fits f.styles asks.0.request c (spelled_days line asks.0 asks.1.0) (spelled_command f asks.0 c asks.1.1)
+asked_fits failed f line c (inr none) = absurd (let e = none.1 in cc)

@@ -22,6 +22,7 @@ use Rattle.treasury_store.specs.Treasury.{is_failure}
 use Rattle.treasury_requests.specs.declared.request.WrittenPart.{WrittenPart}
 use Rattle.treasury_requests.specs.declared.request.Spelled.{Spelled}
 use Rattle.treasury_requests.specs.declared.request.Request.{Request}
+use Rattle.treasury_state.specs.Federation.{Federation}
 use Rattle.treasury_requests.specs.declared.request.Request.TheVariants as asking
 use Rattle.treasury_requests.specs.Request.{spelled, in_earnest, is_report, HasDayNumbers}
 use Rattle.treasury_api.specs.declared.asking.Asked.{Asked}
@@ -129,16 +130,16 @@ one_own : (failure : Bool) (name : List ℕ) (turn : Turn) → IsCommandOf name 
 one_own true name turn own = tt
 one_own false name turn own = (own, tt)
 
-if_own : (failed : Bool) (styles : List Style) (name : List ℕ) (request : Spelled) (asked : Result Asked Refusal)
+if_own : (failed : Bool) (f : Federation) (name : List ℕ) (request : Spelled) (asked : Result Asked Refusal)
     (reply : Result Answer Refusal)
-    → MayAsk name request.request → AsksOf failed styles request asked → AreCommandsOf name (command_if asked reply)
-if_own false styles name request (Ok (Command c)) reply may asks =
+    → MayAsk name request.request → AsksOf failed f request asked → AreCommandsOf name (command_if asked reply)
+if_own false f name request (Ok (Command c)) reply may asks =
     one_own (is_failure reply) name (record { command = c; reply = reply })
-    (command_own styles name request.request c may (spelled_command styles request c asks))
-if_own true styles name request (Ok (Command c)) reply may asks = absurd cc
-if_own failed styles name request (Ok (DryRun c)) reply may asks = tt
-if_own failed styles name request (Ok (Report report)) reply may asks = tt
-if_own failed styles name request (Err refusal) reply may asks = tt
+    (command_own f.styles name request.request c may (spelled_command f request c asks))
+if_own true f name request (Ok (Command c)) reply may asks = absurd cc
+if_own failed f name request (Ok (DryRun c)) reply may asks = tt
+if_own failed f name request (Ok (Report report)) reply may asks = tt
+if_own failed f name request (Err refusal) reply may asks = tt
 
 -- ---- a call
 
@@ -194,7 +195,7 @@ turn_own : (name : List ℕ) (s : Standing) (request : Spelled)
     → MayAsk name request.request → (answers : AnswersAs s request Says reply t)
     → AreCommandsOf name (command_of answers)
 turn_own name s request Says reply t may answers =
-    if_own s.failed s.now.styles name request answers.asked reply may answers.asks
+    if_own s.failed s.now name request answers.asked reply may answers.asks
 
 pub calls_own : (name : List ℕ) (start : Standing) (calls : List AnsweredCall) (end : Standing)
     → AllByRecursion (λ (answered : AnsweredCall). CommandsOnly name answered.call) calls
@@ -203,6 +204,6 @@ calls_own name start [] end only served = tt
 calls_own name start (c ∷ cs) end (first, others) (mid, inl nothing, rest) = calls_own name mid cs end others rest
 calls_own name start (c ∷ cs) end (first, others) (mid, inr (request, asked, (reply, (answers, told))), rest) =
     all-append (λ (turn : Turn). IsCommandOf name turn.command) _ _
-    (turn_own name start request (IsBodyIn c.form c.body start.now) reply mid
+    (turn_own name start request (IsBodyIn c.form c.body request start.now) reply mid
     (asked_own name c.call request first asked) answers)
     (calls_own name mid cs end others rest)

@@ -109,17 +109,17 @@ commands_run start [] h = tt
 commands_run start (t ∷ ts) h = with_first t.asked t.reply h.0 h.1.0 h.2 (λ s k. commands_run s ts k)
   where
     commanded : (failure : Bool) (c : AnyCommand) (r : Result Answer Refusal) → is_failure r ≡ failure
-        → Asks start.failed start.now.styles t.line (Ok (Command c))
+        → Asks start.failed start.now t.line (Ok (Command c))
         → MayReplyAsked start (Ok (Command c)) r
         → IsCommandRun (after_asked start.now (Ok (Command c)) r) (commands_of ts)
         → IsCommandRun start.now ((if failure then [] else record { command = c; reply = r } ∷ []) ++ commands_of ts)
     commanded true c r e asks replies rest =
         subst (λ (f : Federation). IsCommandRun f (commands_of ts)) (failure_leaves start.now c r e) rest
     commanded false c r e asks replies rest =
-        (asked_fits start.failed start.now.styles t.line c asks, command_replied start c r e replies, rest)
+        (asked_fits start.failed start.now t.line c asks, command_replied start c r e replies, rest)
 
     with_first : (asked : Result Asked Refusal) (r : Result Answer Refusal)
-        → Asks start.failed start.now.styles t.line asked → MayReplyAsked start asked r
+        → Asks start.failed start.now t.line asked → MayReplyAsked start asked r
         → AreTurns (next start asked r) ts → ((s : Standing) → AreTurns s ts → IsCommandRun s.now (commands_of ts))
         → IsCommandRun start.now (command_if asked r ++ commands_of ts)
     with_first (Ok (Command c)) r asks replies follow rest =

@@ -41,7 +41,7 @@ use Rattle.treasury_requests.specs.declared.request.Request.TheVariants.{Transfe
 use Rattle.treasury_api.specs.declared.asking.Asked.{Asked}
 use Rattle.treasury_api.specs.declared.asking.Asked.TheVariants.{Command}
 use Rattle.treasury_api.specs.Asked.{asked_by_sample, asked_by_amount, asked_by_part, JournalAsks, RequestAsks, AsksOf}
-use Rattle.treasury_api.specs.Asked.{or_dry_run, SpelledAsks}
+use Rattle.treasury_api.specs.Asked.{or_dry_run, unless_changed, SpelledAsks}
 use Rattle.treasury_api.specs.Serving.{IsHeldFor, OrMemory}
 use Rattle.treasury_api.proofs.SpelledLemmas.{spelled_refusal}
 use Rattle.treasury_api.specs.Left.{FailsWith, IsUnread, IsOpenBut, KeepsDatabase, LeavesAsked, LeavesRequest}
@@ -79,10 +79,11 @@ request_once styles ForCommodities one other a b = a ∙ sym b
 request_once styles (ForAccounts name) one other a b = a ∙ sym b
 request_once styles (ForTransfers day) one other a b = a ∙ sym b
 
-spelled_once : (styles : List Style) (request : Spelled) (one other : Result Asked Refusal)
-    → SpelledAsks styles request one → SpelledAsks styles request other → one ≡ other
-spelled_once styles request one other (said, (asks, is)) (again, (also, same)) =
-    is ∙ (ap (or_dry_run request.is_dry_run) (request_once styles request.request said again asks also) ∙ sym same)
+spelled_once : (f : Federation) (request : Spelled) (one other : Result Asked Refusal)
+    → SpelledAsks f request one → SpelledAsks f request other → one ≡ other
+spelled_once f request one other (said, (asks, is)) (again, (also, same)) =
+    is ∙ (ap (λ (r : Result Asked Refusal). or_dry_run request.terms.is_dry_run (unless_changed f request r))
+    (request_once f.styles request.request said again asks also) ∙ sym same)
 
 -- ---- what is left
 
@@ -107,13 +108,13 @@ pub left_command : {S : Type 0} (g : Ghosts S) (old mid new : Treasury S) (reque
     → IsTrue (state g mid.store.conn).is_open)
     → (IsFaithful g mid.store.conn → (f : Federation) → IsTreasuryOf g old f → IsTreasuryOf g mid f)
     → old.store.failed ≡ false → IsHeldFor mid c
-    → ((f : Federation) → IsTreasuryOf g mid f → SpelledAsks f.styles request (Ok (Command c)))
+    → ((f : Federation) → IsTreasuryOf g mid f → SpelledAsks f request (Ok (Command c)))
     → LeavesStep g mid new c → LeavesRequest g old new request
 left_command g old mid new request c cleaner opens of_mid unfailed held means step clean is_open f of asked asks =
     let there = of_mid (cleaner clean) f of in
     let same : Ok (Command c) ≡ asked =
-    spelled_once f.styles request (Ok (Command c)) asked (means f there)
-    (subst (λ (b : Bool). AsksOf b f.styles request asked) unfailed asks) in
+    spelled_once f request (Ok (Command c)) asked (means f there)
+    (subst (λ (b : Bool). AsksOf b f request asked) unfailed asks) in
     subst (λ (a : Result Asked Refusal). LeavesAsked g new.store.conn f a) same
     (step (opens (cleaner clean) is_open) f there (fits_of g mid f c there held))
 
@@ -254,12 +255,14 @@ texts_ruled styles ForCommodities refusal asks = absurd cc
 texts_ruled styles (ForAccounts name) refusal asks = absurd cc
 texts_ruled styles (ForTransfers day) refusal asks = absurd cc
 
-pub ruled_texts : (styles : List Style) (request : Spelled) (refusal : Refusal)
-    → OrMemory (SpelledAsks styles request) (Err refusal) → is_by_rules refusal ≡ true
-ruled_texts styles request refusal (inl memory) =
+pub ruled_texts : (f : Federation) (request : Spelled) (refusal : Refusal)
+    → OrMemory (SpelledAsks f request) (Err refusal) → is_by_rules refusal ≡ true
+ruled_texts f request refusal (inl memory) =
     let k : refusal ≡ Plain OutOfMemory = cc in ap (λ (x : Refusal). is_by_rules x) k
-ruled_texts styles request refusal (inr asks) =
-    texts_ruled styles request.request refusal (spelled_refusal styles request refusal asks)
+ruled_texts f request refusal (inr asks) = elim (spelled_refusal f request refusal asks) [
+  | inl texts ↦ texts_ruled f.styles request.request refusal texts
+  | inr changed ↦ ap (λ (x : Refusal). is_by_rules x) changed
+]
 
 -- and so is that of a report
 pub ruled_report : (cause : Cause) → (cause ≡ UnknownBranch) ⊎ (cause ≡ OutOfMemory) → is_by_rules (Plain cause) ≡ true

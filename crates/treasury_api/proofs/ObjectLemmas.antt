@@ -5,7 +5,7 @@ use Rattle.std.proofs.Common.{decimal, inl, inr, ◌⊎◌}
 use Rattle.std.specs.List.{flat_map}
 use Rattle.std.specs.Fmt.{digits}
 use Rattle.std.proofs.lemmas.Str.{IsUtf8-nil, is_utf8-from_IsUtf8}
-use Rattle.std.proofs.Common.{Result, Ok, Err, OnOk}
+use Rattle.std.proofs.Common.{Result, Ok, Err, OnOk, Option, Some, None, IfSome, IsOk}
 use Rattle.money_core.specs.declared.cause.Cause.{Cause}
 use Rattle.money_core.specs.declared.cause.Cause.TheVariants as is
 use Rattle.money_core.specs.Cause.{cause_number, cause_name}
@@ -68,6 +68,7 @@ name_short is.Request = omega arith
 name_short is.ReadFault = omega arith
 name_short is.WriteFault = omega arith
 name_short is.TooMuch = omega arith
+name_short is.Changed = omega arith
 
 -- its sentence
 sentence_short : (c : Cause) → length (sentence_of c) ≤ 150
@@ -118,6 +119,7 @@ sentence_short is.Request = omega arith
 sentence_short is.ReadFault = omega arith
 sentence_short is.WriteFault = omega arith
 sentence_short is.TooMuch = omega arith
+sentence_short is.Changed = omega arith
 
 -- ---- objects
 
@@ -125,7 +127,7 @@ sentence_short is.TooMuch = omega arith
 append_assoc_four : (a s e f : List ℕ) → ((a ++ s) ++ e) ++ f ≡ a ++ (s ++ (e ++ f))
 append_assoc_four a s e f = simp append_assoc
 
-done_parts : (line : List ℕ) → done_json line [] ≡ codes "{\"answer\":" ++ (quoted line
+done_parts : (line : List ℕ) → done_json line [] None ≡ codes "{\"answer\":" ++ (quoted line
     ++ codes ",\"told\":[],\"notes\":[]}\n")
 unfolding escaped lines_of
 done_parts line =
@@ -133,13 +135,25 @@ done_parts line =
     (append_assoc_four (flat_map escaped line
     ++ codes "\"") (codes ",\"told\":[],\"notes\":[]") (codes "}") (codes "\n"))
 
+-- and where it says how many entries there are
+nest_counted : (a s q e f : List ℕ) → ((a ++ (s ++ (q ++ []))) ++ e) ++ f ≡ a ++ (s ++ (q ++ (e ++ f)))
+nest_counted a s q e f = simp (append_assoc, append-nil)
+
+counted_parts : (line : List ℕ) (n : ℕ) → done_json line [] (Some n) ≡ codes "{\"answer\":" ++ (quoted line
+    ++ (codes ",\"told\":[],\"notes\":[],\"entries\":" ++ (quoted (decimal n) ++ codes "}\n")))
+unfolding escaped lines_of
+counted_parts line n =
+    ap (λ (t : List ℕ). codes "{\"answer\":\"" ++ t)
+    (nest_counted (flat_map escaped line ++ codes "\"") (codes ",\"told\":[],\"notes\":[],\"entries\":\"")
+    (flat_map escaped (decimal n) ++ codes "\"") (codes "}") (codes "\n"))
+
 -- those of a refusal
 nest_all : (a p b q c r d s e f : List ℕ)
     → ((a ++ (p ++ (b ++ (q ++ (c ++ (r ++ (d ++ s))))))) ++ e) ++ f
     ≡ a ++ (p ++ (b ++ (q ++ (c ++ (r ++ (d ++ (s ++ (e ++ f))))))))
 nest_all a p b q c r d s e f = simp append_assoc
 
-refused_parts : (line nr name sentence : List ℕ) → refusal_json line nr name sentence []
+refused_parts : (line nr name sentence : List ℕ) → refusal_json line nr name sentence [] None
     ≡ codes "{\"answer\":" ++ (quoted line ++ (codes ",\"number\":" ++ (quoted nr
     ++ (codes ",\"name\":" ++ (quoted name ++ (codes ",\"sentence\":" ++ (quoted sentence
     ++ codes ",\"told\":[],\"notes\":[]}\n")))))))
@@ -149,6 +163,23 @@ refused_parts line nr name sentence =
     (nest_all (flat_map escaped line ++ codes "\"") (codes ",\"number\":\"") (flat_map escaped nr ++ codes "\"")
     (codes ",\"name\":\"") (flat_map escaped name ++ codes "\"") (codes ",\"sentence\":\"")
     (flat_map escaped sentence ++ codes "\"") (codes ",\"told\":[],\"notes\":[]") (codes "}") (codes "\n"))
+
+nest_more : (a p b q c r d g h e f : List ℕ)
+    → ((a ++ (p ++ (b ++ (q ++ (c ++ (r ++ (d ++ (g ++ (h ++ []))))))))) ++ e) ++ f
+    ≡ a ++ (p ++ (b ++ (q ++ (c ++ (r ++ (d ++ (g ++ (h ++ (e ++ f)))))))))
+nest_more a p b q c r d g h e f = simp (append_assoc, append-nil)
+
+refused_counted_parts : (line nr name sentence : List ℕ) (n : ℕ) → refusal_json line nr name sentence [] (Some n)
+    ≡ codes "{\"answer\":" ++ (quoted line ++ (codes ",\"number\":" ++ (quoted nr
+    ++ (codes ",\"name\":" ++ (quoted name ++ (codes ",\"sentence\":" ++ (quoted sentence
+    ++ (codes ",\"told\":[],\"notes\":[],\"entries\":" ++ (quoted (decimal n) ++ codes "}\n")))))))))
+unfolding escaped lines_of
+refused_counted_parts line nr name sentence n =
+    ap (λ (t : List ℕ). codes "{\"answer\":\"" ++ t)
+    (nest_more (flat_map escaped line ++ codes "\"") (codes ",\"number\":\"") (flat_map escaped nr ++ codes "\"")
+    (codes ",\"name\":\"") (flat_map escaped name ++ codes "\"") (codes ",\"sentence\":\"")
+    (flat_map escaped sentence ++ codes "\"") (codes ",\"told\":[],\"notes\":[],\"entries\":\"")
+    (flat_map escaped (decimal n) ++ codes "\"") (codes "}") (codes "\n"))
 
 number_short : (c : Cause) → length (decimal (cause_number c)) ≤ 2
 unfolding digits
@@ -198,27 +229,45 @@ number_short is.Request = omega arith
 number_short is.ReadFault = omega arith
 number_short is.WriteFault = omega arith
 number_short is.TooMuch = omega arith
+number_short is.Changed = omega arith
 
 -- the object of a plain answer fits in its room
-pub done_short : (line noted : List ℕ) → length line ≤ 63 → noted ≡ [] → length (done_json line noted) ≤ 2_048
-done_short line noted short none =
-    subst (λ (t : List ℕ). length (done_json line t) ≤ 2_048) (sym none)
-    (subst (λ (t : List ℕ). length t ≤ 2_048) (sym (done_parts line))
+plain_done_short : (line : List ℕ) → length line ≤ 63 → length (done_json line [] None) ≤ 2_048
+plain_done_short line short =
+    subst (λ (t : List ℕ). length t ≤ 2_048) (sym (done_parts line))
     (let e = length-append (codes "{\"answer\":") (quoted line ++ codes ",\"told\":[],\"notes\":[]}\n") in
     let k = length-append (quoted line) (codes ",\"told\":[],\"notes\":[]}\n") in
     let q = length-quoted line in
-    omega (arith, e, k, q)))
+    omega (arith, e, k, q))
+
+length_of_counted_parts : (a l b q e : List ℕ)
+    → length (a ++ (l ++ (b ++ (q ++ e)))) ≡ length a + (length l + (length b + (length q + length e)))
+length_of_counted_parts a l b q e = simp length-append
+
+counted_done_short : (line : List ℕ) (n : ℕ) → length line ≤ 63 → length (decimal n) ≤ 40
+    → length (done_json line [] (Some n)) ≤ 2_048
+counted_done_short line n short digits_short =
+    subst (λ (t : List ℕ). length t ≤ 2_048) (sym (counted_parts line n))
+    (let e = length_of_counted_parts (codes "{\"answer\":") (quoted line)
+    (codes ",\"told\":[],\"notes\":[],\"entries\":") (quoted (decimal n)) (codes "}\n") in
+    let q = length-quoted line in
+    let d = length-quoted (decimal n) in
+    omega (arith, e, q, d, short, digits_short))
+
+pub done_short : (line : List ℕ) (entries : Option ℕ) → length line ≤ 63
+    → IfSome entries (λ n. length (decimal n) ≤ 40) → length (done_json line [] entries) ≤ 2_048
+done_short line None short digits_short = plain_done_short line short
+done_short line (Some n) short digits_short = counted_done_short line n short digits_short
 
 length_of_object_parts : (a l b n c m d s e : List ℕ)
     → length (a ++ (l ++ (b ++ (n ++ (c ++ (m ++ (d ++ (s ++ e))))))))
     ≡ length a + (length l + (length b + (length n + (length c + (length m + (length d + (length s + length e)))))))
 length_of_object_parts a l b n c m d s e = simp length-append
 
-pub refused_short : (line : List ℕ) (cause : Cause) (told : List ℕ) → length line ≤ 63 → told ≡ []
-    → length (refused_json line cause told) ≤ 2_048
-refused_short line cause told short none =
-    subst (λ (t : List ℕ). length (refused_json line cause t) ≤ 2_048) (sym none)
-    (subst (λ (t : List ℕ). length t ≤ 2_048)
+plain_refused_short : (line : List ℕ) (cause : Cause) → length line ≤ 63
+    → length (refused_json line cause [] None) ≤ 2_048
+plain_refused_short line cause short =
+    subst (λ (t : List ℕ). length t ≤ 2_048)
     (sym (refused_parts line (decimal (cause_number cause)) (cause_name cause) (sentence_of cause)))
     (let e = length_of_object_parts (codes "{\"answer\":") (quoted line) (codes ",\"number\":")
     (quoted (decimal (cause_number cause)))
@@ -231,7 +280,43 @@ refused_short line cause told short none =
     let ns = number_short cause in
     let ms = name_short cause in
     let ss = sentence_short cause in
-    omega (arith, e, l, n, m, s, ns, ms, ss)))
+    omega (arith, e, l, n, m, s, ns, ms, ss))
+
+length_of_more_parts : (a l b n c m d s g h e : List ℕ)
+    → length (a ++ (l ++ (b ++ (n ++ (c ++ (m ++ (d ++ (s ++ (g ++ (h ++ e))))))))))
+    ≡ length a + (length l + (length b + (length n + (length c + (length m + (length d + (length s
+    + (length g + (length h + length e)))))))))
+length_of_more_parts a l b n c m d s g h e = simp length-append
+
+counted_refused_short : (line : List ℕ) (cause : Cause) (n : ℕ) → length line ≤ 63 → length (decimal n) ≤ 40
+    → length (refused_json line cause [] (Some n)) ≤ 2_048
+counted_refused_short line cause n short digits_short =
+    subst (λ (t : List ℕ). length t ≤ 2_048)
+    (sym (refused_counted_parts line (decimal (cause_number cause)) (cause_name cause) (sentence_of cause) n))
+    (let e = length_of_more_parts (codes "{\"answer\":") (quoted line) (codes ",\"number\":")
+    (quoted (decimal (cause_number cause)))
+    (codes ",\"name\":") (quoted (cause_name cause)) (codes ",\"sentence\":") (quoted (sentence_of cause))
+    (codes ",\"told\":[],\"notes\":[],\"entries\":") (quoted (decimal n)) (codes "}\n") in
+    let l = length-quoted line in
+    let k = length-quoted (decimal (cause_number cause)) in
+    let m = length-quoted (cause_name cause) in
+    let s = length-quoted (sentence_of cause) in
+    let d = length-quoted (decimal n) in
+    let ns = number_short cause in
+    let ms = name_short cause in
+    let ss = sentence_short cause in
+    omega (arith, e, l, k, m, s, d, ns, ms, ss, short, digits_short))
+
+pub refused_short : (line : List ℕ) (cause : Cause) (told : List ℕ) (entries : Option ℕ) → length line ≤ 63
+    → told ≡ [] → IfSome entries (λ n. length (decimal n) ≤ 40) → length (refused_json line cause told entries) ≤ 2_048
+refused_short line cause told entries short none digits_short =
+    subst (λ (t : List ℕ). length (refused_json line cause t entries) ≤ 2_048) (sym none)
+    (by_entries entries digits_short)
+  where
+    by_entries : (o : Option ℕ) → IfSome o (λ n. length (decimal n) ≤ 40)
+        → length (refused_json line cause [] o) ≤ 2_048
+    by_entries None digits_short = plain_refused_short line cause short
+    by_entries (Some n) digits_short = counted_refused_short line cause n short digits_short
 
 -- ---- the object of a report
 
@@ -253,26 +338,35 @@ report_object f report old rows new is said =
 
 -- ---- the object of a refusal, by its cause
 
-pub refused_as : (line nr name said told : List ℕ) (cause : Cause) → nr ≡ decimal (cause_number cause)
-    → name ≡ cause_name cause → said ≡ sentence_of cause
-    → refusal_json line nr name said told ≡ refused_json line cause told
-refused_as line nr name said told cause number named sentence =
-    ap (λ (t : List ℕ). refusal_json line t name said told) number
-    ∙ (ap (λ (t : List ℕ). refusal_json line (decimal (cause_number cause)) t said told) named
-    ∙ ap (λ (t : List ℕ). refusal_json line (decimal (cause_number cause)) (cause_name cause) t told) sentence)
+pub refused_as : (line nr name said told : List ℕ) (cause : Cause) (entries : Option ℕ)
+    → nr ≡ decimal (cause_number cause) → name ≡ cause_name cause → said ≡ sentence_of cause
+    → refusal_json line nr name said told entries ≡ refused_json line cause told entries
+refused_as line nr name said told cause entries number named sentence =
+    ap (λ (t : List ℕ). refusal_json line t name said told entries) number
+    ∙ (ap (λ (t : List ℕ). refusal_json line (decimal (cause_number cause)) t said told entries) named
+    ∙ ap (λ (t : List ℕ). refusal_json line (decimal (cause_number cause)) (cause_name cause) t told entries) sentence)
 
-pub refused_fits : (line nr name said told : List ℕ) (cause : Cause) (old cap : ℕ) → nr ≡ decimal (cause_number cause)
-    → name ≡ cause_name cause → said ≡ sentence_of cause → length line ≤ 63 → told ≡ [] → old + 2_048 ≤ cap
-    → old + length (refusal_json line nr name said told) ≤ cap
-refused_fits line nr name said told cause old cap number named sentence short none fits =
-    let e = ap length (refused_as line nr name said told cause number named sentence) in
-    let s = refused_short line cause told short none in
+pub refused_fits : (line nr name said told : List ℕ) (cause : Cause) (entries : Option ℕ) (old cap : ℕ)
+    → nr ≡ decimal (cause_number cause) → name ≡ cause_name cause → said ≡ sentence_of cause → length line ≤ 63
+    → told ≡ [] → IfSome entries (λ n. length (decimal n) ≤ 40) → old + 2_048 ≤ cap
+    → old + length (refusal_json line nr name said told entries) ≤ cap
+refused_fits line nr name said told cause entries old cap number named sentence short none digits_short fits =
+    let e = ap length (refused_as line nr name said told cause entries number named sentence) in
+    let s = refused_short line cause told entries short none digits_short in
     omega (arith, e, s, fits)
 
 -- nothing is told
-pub refused_none : {T E : Type 0} (result : Result T E) (line : List ℕ) (cause : Cause) (old mid new : List ℕ)
-    → mid ≡ old → old ≡ [] → OnOk result (new ≡ mid ++ refused_json line cause [])
-    → OnOk result (IsJsonRefused line cause new)
-refused_none (Ok x) line cause old mid new same empty said =
-    ([], is_utf8-from_IsUtf8 [] IsUtf8-nil, said ∙ ap (λ (t : List ℕ). t ++ refused_json line cause []) (same ∙ empty))
-refused_none (Err e) line cause old mid new same empty said = tt
+pub refused_none : {T E : Type 0} (result : Result T E) (line : List ℕ) (cause : Cause) (entries : Option ℕ)
+    (old mid new : List ℕ) → mid ≡ old → old ≡ [] → OnOk result (new ≡ mid ++ refused_json line cause [] entries)
+    → OnOk result (IsJsonRefused line cause entries new)
+refused_none (Ok x) line cause entries old mid new same empty said = (
+  [],
+  is_utf8-from_IsUtf8 [] IsUtf8-nil,
+  said ∙ ap (λ (t : List ℕ). t ++ refused_json line cause [] entries) (same ∙ empty),
+)
+refused_none (Err e) line cause entries old mid new same empty said = tt
+
+-- what is told to be refused is not done
+pub not_both : {T E : Type 0} (result : Result T E) (error : E) → result ≡ Err error → IsOk result → ⊥
+not_both (Ok x) error is ok = absurd cc
+not_both (Err e) error is ok = absurd cc

@@ -55,8 +55,9 @@ pub replied_done : {S : Type 0} (form : Form) (g : Ghosts S) (old new : Treasury
     → (IsFaithful g new.store.conn → (f : Federation) → IsTreasuryOf g old f
     → IsAnsweredIn form g old.store.failed new f request made [] written)
     → ((f : Federation) (asked : Result Asked Refusal) (answer : Answer)
-    → AsksOf old.store.failed f.styles request asked
+    → AsksOf old.store.failed f request asked
     → MayReplyAsked (record { now = f; failed = old.store.failed }) asked (Ok answer)
+    → IsTreasuryOf g new (after_asked f asked (Ok answer))
     → written ≡ [] ++ body_of form f asked answer → Says f asked (Ok answer))
     → ((answer : Answer) → Tells (Ok answer)) → RepliesAs g old request Says Tells new
 replied_done form g old new written request Says Tells made x ok days clean answers says tells = record {
@@ -86,7 +87,10 @@ replied_done form g old new written request Says Tells made x ok days clean answ
                   days = days;
                   asks = asks;
                   replies = replies;
-                  text = says f asked told.0 asks replies told.1.1;
+                  text =
+                      says f asked told.0 asks replies
+                      (subst (λ (y : Result Answer Refusal). IsTreasuryOf g new (after_asked f asked y)) told.1.0 r.of)
+                      told.1.1;
                   left = standing_is_next old new f asked (Ok told.0)
                       (r.left ∙ ap (λ (y : Result Answer Refusal). old.store.failed || is_failure y) told.1.0);
                 },
@@ -108,7 +112,7 @@ said_done g old new written request Tells made x ok days clean answers tells =
     replied_done form.Text g old new written request
     (λ (f : Federation) (asked : Result Asked Refusal) (r : Result Answer Refusal). written ≡ request_text f asked r)
     Tells made x ok days clean answers
-    (λ f asked answer asks replies said. written_text f old.store.failed asked answer written replies said) tells
+    (λ f asked answer asks replies of said. written_text f old.store.failed asked answer written replies said) tells
 
 -- what is said and told of a refusal: that it is the refusal, or 40 in its place, which is no failure then
 abbrev pub IsRefusedAs : (Federation → Result Asked Refusal → Result Answer Refusal → Type 0)
@@ -133,7 +137,7 @@ replied_as form g old new written request Says Tells made refusal refused days c
   answers = λ k f of. by_reply f (answers k f of);
 }
   where
-    by_line : (f : Federation) (asked : Result Asked Refusal) → AsksOf old.store.failed f.styles request asked
+    by_line : (f : Federation) (asked : Result Asked Refusal) → AsksOf old.store.failed f request asked
         → MayReplyAsked (record { now = f; failed = old.store.failed }) asked (Err refusal) → IsTreasuryOf g new f
         → new.store.failed ≡ (old.store.failed || is_failure (Err refusal))
         → IsRefusedAs Says Tells f refusal
@@ -248,7 +252,7 @@ IsRunTo f turns end = IsRun f turns × (end ≡ state_after f turns)
 -- the command of a request, if it is one, and those after it
 run_behind_command : (f : Federation) (request : Spelled) (asked : Result Asked Refusal) (r : Result Answer Refusal)
     (turns : List Turn) (end : Federation)
-    → HasDayNumbers request.request → SpelledAsks f.styles request asked
+    → HasDayNumbers request.request → SpelledAsks f request asked
     → MayReplyAsked (record { now = f; failed = false }) asked r
     → IsRunTo (after_asked f asked r) turns end → IsRunTo f (command_if asked r ++ turns) end
 run_behind_command f request (Ok (Command c)) r turns end days asks replies rest = commanded (is_failure r) refl
@@ -258,7 +262,7 @@ run_behind_command f request (Ok (Command c)) r turns end days asks replies rest
     commanded true failed = subst (λ (g : Federation). IsRunTo g turns end) (failure_leaves f c r failed) rest
     commanded false failed = (
       (
-        request_fits f.styles request.request c days (spelled_command f.styles request c asks),
+        request_fits f.styles request.request c days (spelled_command f request c asks),
         command_replied (record { now = f; failed = false }) c r failed replies,
         rest.0,
       ),

@@ -55,16 +55,16 @@ use Rattle.treasury_api.proofs.ReplyLemmas.{state_is, same_line, refusal_is}
 use Rattle.treasury_api.proofs.LeftLemmas.{LeavesShown, leaves_first}
 
 -- every line asks something
-line_asks : ReadsAll → (failed : Bool) (styles : List Style) (line : List ℕ)
-    → (asked : Result Asked Refusal) × Asks failed styles line asked
-line_asks law failed styles line = by_request (spelled line) refl
+line_asks : ReadsAll → (failed : Bool) (f : Federation) (line : List ℕ)
+    → (asked : Result Asked Refusal) × Asks failed f line asked
+line_asks law failed f line = by_request (spelled line) refl
   where
-    of_request : (b : Bool) (request : Spelled) → (asked : Result Asked Refusal) × AsksOf b styles request asked
+    of_request : (b : Bool) (request : Spelled) → (asked : Result Asked Refusal) × AsksOf b f request asked
     of_request true request = (Err (Plain Closed), refl)
-    of_request false request = spelled_asks law styles request
+    of_request false request = spelled_asks law f request
 
     by_request : (o : Option Spelled) → spelled line ≡ o
-        → (asked : Result Asked Refusal) × Asks failed styles line asked
+        → (asked : Result Asked Refusal) × Asks failed f line asked
     by_request (Some request) e = let a = of_request failed request in (a.0, inl (request, (e, a.1)))
     by_request None e = (Err (Plain NoRequest), inr (e, refl))
 
@@ -173,7 +173,7 @@ unread_line_served law g shown t line text cause read is none causes said = reco
       left = next_of_harmless t f (Err (Plain NoRequest)) NoRequest refl;
     }
     by_cause f (inr memory) =
-        let asked = line_asks law t.store.failed f.styles line in
+        let asked = line_asks law t.store.failed f line in
         record {
           asked = asked.0;
           reply = Err (Plain OutOfMemory);
@@ -222,18 +222,17 @@ dry_run_asks styles (ForReceive id name day account part) c asks = refl
 dry_run_asks styles (ForLock name day) c asks = refl
 dry_run_asks styles (ForClose name day accounts into) c asks = refl
 
-pub asks_report : (failed : Bool) (styles : List Style) (request : Spelled) (c : AnyCommand)
-    → AsksOf failed styles request (Ok (Command c)) → is_report request.request ≡ false
-asks_report true styles request c asks = absurd cc
-asks_report false styles request c asks =
-    command_asks styles request.request c (spelled_command styles request c asks)
+pub asks_report : (failed : Bool) (f : Federation) (request : Spelled) (c : AnyCommand)
+    → AsksOf failed f request (Ok (Command c)) → is_report request.request ≡ false
+asks_report true f request c asks = absurd cc
+asks_report false f request c asks = command_asks f.styles request.request c (spelled_command f request c asks)
 
-pub asks_dry_run : (failed : Bool) (styles : List Style) (request : Spelled) (c : AnyCommand)
-    → AsksOf failed styles request (Ok (DryRun c)) → is_report request.request ≡ false
-asks_dry_run true styles request c asks = absurd cc
-asks_dry_run false styles request c asks = elim (spelled_dry_run styles request c asks) [
-  | inl command ↦ command_asks styles request.request c command
-  | inr dry ↦ dry_run_asks styles request.request c dry
+pub asks_dry_run : (failed : Bool) (f : Federation) (request : Spelled) (c : AnyCommand)
+    → AsksOf failed f request (Ok (DryRun c)) → is_report request.request ≡ false
+asks_dry_run true f request c asks = absurd cc
+asks_dry_run false f request c asks = elim (spelled_dry_run f request c asks) [
+  | inl command ↦ command_asks f.styles request.request c command
+  | inr dry ↦ dry_run_asks f.styles request.request c dry
 ]
 
 by_sample : (o : Option Style) (report : AnyReport) (P : Type 0) → Ok (Report report) ≡ asked_by_sample o → P
@@ -272,19 +271,18 @@ report_asks styles ForCommodities report asks = refl
 report_asks styles (ForAccounts name) report asks = refl
 report_asks styles (ForTransfers day) report asks = refl
 
-pub no_report : (failed : Bool) (styles : List Style) (request : Spelled) (report : AnyReport)
-    → AsksOf failed styles request (Ok (Report report)) → is_report request.request ≡ true
-no_report true styles request report asks = absurd cc
-no_report false styles request report asks =
-    report_asks styles request.request report (spelled_report styles request report asks)
+pub no_report : (failed : Bool) (f : Federation) (request : Spelled) (report : AnyReport)
+    → AsksOf failed f request (Ok (Report report)) → is_report request.request ≡ true
+no_report true f request report asks = absurd cc
+no_report false f request report asks =
+    report_asks f.styles request.request report (spelled_report f request report asks)
 
 -- what is asked is a report where the request is one
-pub asked_report : (styles : List Style) (request : Spelled) (asked : Asked) (report : AnyReport)
-    → asked ≡ Report report → OrMemory (SpelledAsks styles request) (Ok asked) → is_report request.request ≡ true
-asked_report styles request asked report is (inl memory) = absurd cc
-asked_report styles request asked report is (inr asks) =
-    no_report false styles request report
-    (subst (λ (x : Asked). SpelledAsks styles request (Ok x)) is asks)
+pub asked_report : (f : Federation) (request : Spelled) (asked : Asked) (report : AnyReport)
+    → asked ≡ Report report → OrMemory (SpelledAsks f request) (Ok asked) → is_report request.request ≡ true
+asked_report f request asked report is (inl memory) = absurd cc
+asked_report f request asked report is (inr asks) =
+    no_report false f request report (subst (λ (x : Asked). SpelledAsks f request (Ok x)) is asks)
 
 -- what is replied leads on
 pub standing_is_next : {S : Type 0} (old new : Treasury S) (f : Federation) (asked : Result Asked Refusal)
@@ -315,21 +313,21 @@ refused_only f failed refusal answer P (inr (inr e)) = absurd (let k = e.1 in cc
 
 -- the text of an answer: the line that ends a report stands after it
 whole_text : (f : Federation) (failed : Bool) (request : Spelled) (asked : Result Asked Refusal) (answer : Answer)
-    (written text : List ℕ) → AsksOf failed f.styles request asked
+    (written text : List ℕ) → AsksOf failed f request asked
     → MayReplyAsked (record { now = f; failed = failed }) asked (Ok answer) → written ≡ []
     ++ body_of form.Text f asked answer
     → text ≡ written ++ end_of_report request.request → text ≡ reply_text f asked (Ok answer)
 whole_text f failed request (Ok (Command c)) answer written text asks replies said ended =
     let none : end_of_report request.request ≡ [] =
-    ap (λ (t : Bool). if t then answer_text [] (Ok Done) else []) (asks_report failed f.styles request c asks) in
+    ap (λ (t : Bool). if t then answer_text [] (Ok Done) else []) (asks_report failed f request c asks) in
     ended ∙ (ap (λ (xs : List ℕ). written ++ xs) none ∙ (append-nil written ∙ said))
 whole_text f failed request (Ok (DryRun c)) answer written text asks replies said ended =
     let none : end_of_report request.request ≡ [] =
-    ap (λ (t : Bool). if t then answer_text [] (Ok Done) else []) (asks_dry_run failed f.styles request c asks) in
+    ap (λ (t : Bool). if t then answer_text [] (Ok Done) else []) (asks_dry_run failed f request c asks) in
     ended ∙ (ap (λ (xs : List ℕ). written ++ xs) none ∙ (append-nil written ∙ said))
 whole_text f failed request (Ok (Report report)) answer written text asks replies said ended =
     let last : end_of_report request.request ≡ answer_text [] (Ok Done) =
-    ap (λ (t : Bool). if t then answer_text [] (Ok Done) else []) (no_report failed f.styles request report asks) in
+    ap (λ (t : Bool). if t then answer_text [] (Ok Done) else []) (no_report failed f request report asks) in
     ended ∙ (ap (λ (xs : List ℕ). written ++ xs) (last ∙ same_line f.styles Done) ∙
     (ap (λ (xs : List ℕ). xs ++ answer_text f.styles (Ok Done)) said
     ∙ ap (λ (a : Answer). report_text f report ++ answer_text f.styles (Ok a))
@@ -418,14 +416,14 @@ served_memory g old new line written text request made x is ok beside answers re
         × ((a : Answers (standing old f) line text (standing new end)) × LeavesReply g old new f a.asked a.reply))
 
     by_asked : (f : Federation) (asked : Result Asked Refusal) (answer : Answer)
-        → AsksOf old.store.failed f.styles request asked
+        → AsksOf old.store.failed f request asked
         → MayReplyAsked (record { now = f; failed = old.store.failed }) asked (Ok answer)
         → IsTreasuryOf g new (after_asked f asked (Ok answer)) → new.store.failed ≡ (old.store.failed || false)
         → LeavesReply g old new f asked (Err (Plain OutOfMemory)) → Told f
     by_asked f (Ok (Command c)) answer asks replies of left leaves =
-        absurd (let e : true ≡ false = sym report ∙ asks_report old.store.failed f.styles request c asks in cc)
+        absurd (let e : true ≡ false = sym report ∙ asks_report old.store.failed f request c asks in cc)
     by_asked f (Ok (DryRun c)) answer asks replies of left leaves =
-        absurd (let e : true ≡ false = sym report ∙ asks_dry_run old.store.failed f.styles request c asks in cc)
+        absurd (let e : true ≡ false = sym report ∙ asks_dry_run old.store.failed f request c asks in cc)
     by_asked f (Ok (Report asked)) answer asks replies of left leaves = (
       f,
       (
@@ -500,7 +498,7 @@ served_refusal g old new line written text request made refusal is refused besid
     same_refusal other e = refusal_is made refusal other refused e
 
     by_line : IsFaithful g new.store.conn → (f : Federation) → IsTreasuryOf g old f
-        → (asked : Result Asked Refusal) → AsksOf old.store.failed f.styles request asked
+        → (asked : Result Asked Refusal) → AsksOf old.store.failed f request asked
         → MayReplyAsked (record { now = f; failed = old.store.failed }) asked (Err refusal) → IsTreasuryOf g new f
         → new.store.failed ≡ (old.store.failed || is_failure (Err refusal))
         → (text ≡ answer_text f.styles (Err refusal))

@@ -139,7 +139,8 @@ told_unasked g t form call status body is said (none, told) =
 -- one that asks for a request
 pub request_answered : {S : Type 0} (g : Ghosts S) (old new : Treasury S) (form : Form) (call : Call)
     (request : Spelled) (status : ℕ) (body : List ℕ) → asked_by call ≡ Some request
-    → RepliesAs g old request (IsBodyIn form body) (λ (reply : Result Answer Refusal). status ≡ status_of reply) new
+    → RepliesAs g old request (IsBodyIn form body request) (λ (reply : Result Answer Refusal). status ≡ status_of reply)
+    new
     → LeavesReplied g old request status new → AnswersOn g old form call status body new
 request_answered g old new form call request status body asks replies leaves = record {
   clean = replies.clean;
@@ -173,7 +174,7 @@ calls_run start [] end same = (tt, ap (λ (s : Standing). s.now) same)
 calls_run start (c ∷ cs) end (mid, inl (none, answer, left), rest) =
     subst (λ (s : Standing). IsRunTo s.now (turns_of_calls mid cs end rest) end.now) left (calls_run mid cs end rest)
 calls_run start (c ∷ cs) end (mid, inr (request, asks, (reply, (answers, told))), rest) =
-    request_run_of start.failed start.now request (IsBodyIn c.form c.body start.now) reply mid
+    request_run_of start.failed start.now request (IsBodyIn c.form c.body request start.now) reply mid
     (turns_of_calls mid cs end rest) end.now answers
     (calls_run mid cs end rest)
 
@@ -207,7 +208,7 @@ pub refused_leaves : (s : Standing) (form : Form) (call : Call) (status : ℕ) (
     → AnswersCall s form call status body t → status ≢ 200 → t.now ≡ s.now
 refused_leaves s form call status body t (inl (none, answer, left)) other = ap (λ (x : Standing). x.now) left
 refused_leaves s form call status body t (inr (request, asks, (reply, (answers, told)))) other =
-    request_leaves s request (IsBodyIn form body s.now) reply t answers
+    request_leaves s request (IsBodyIn form body request s.now) reply t answers
     (refusal_of_other_status status reply told other)
 
 -- ---- a call that failed
@@ -222,7 +223,7 @@ one_fails_or Rows Leads s (c ∷ cs) end (mid, inl nothing, rest) fails = one_fa
 one_fails_or Rows Leads s (c ∷ cs) end (mid, inr (request, asks, (reply, (answers, told))), rest)
     (inl (failed, inl same)) =
     let here : mid.now ≡ s.now =
-    request_leaves s request (IsBodyIn c.form c.body s.now) reply mid answers (ap is_refusal failed) in
+    request_leaves s request (IsBodyIn c.form c.body request s.now) reply mid answers (ap is_refusal failed) in
     let since : mid.failed ≡ true =
     ap (λ (x : Standing). x.failed) answers.left ∙ (ap (λ (r : Result Answer Refusal). s.failed || is_failure r) failed
     ∙ or-true s.failed) in

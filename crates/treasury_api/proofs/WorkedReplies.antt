@@ -26,7 +26,8 @@ no_request = refl
 
 pub conflicts : (status_of (Err (Plain cause.UnknownBranch)) ≡ 409) × (status_of (Err (Plain cause.BadId)) ≡ 409)
     × (status_of (Err (Plain cause.TooMuch)) ≡ 409)
-conflicts = (refl, refl, refl)
+    × (status_of (Err (Plain cause.Changed)) ≡ 409)
+conflicts = (refl, refl, refl, refl)
 
 pub texts : (line : ℕ)
     → (status_of (Err (Text (record { line = line; cause = cause.Utf8 }))) ≡ 422)
@@ -96,12 +97,12 @@ pub in_text : (form_of_reply form.Json 403 ≡ form.Text) × (form_of_reply form
 in_text = (refl, refl, refl, refl)
 
 -- an answer, with what is noted of it; and a refusal, with what is told
-pub noted : reply_json [] (Ok (Entered 1 0)) [] (codes "note: a\nnote: b\n")
+pub noted : reply_json [] (Ok (Entered 1 0)) [] (codes "note: a\nnote: b\n") None
     ≡ codes "{\"answer\":\"ok 1 new, 0 repeated\",\"told\":[],\"notes\":[\"note: a\",\"note: b\"]}\n"
 unfolding digits escaped lines_of
 noted = refl
 
-pub told : reply_json [] (Err (Plain cause.UnknownBranch)) (codes "treasury: \"x\"\n") []
+pub told : reply_json [] (Err (Plain cause.UnknownBranch)) (codes "treasury: \"x\"\n") [] None
     ≡ codes "{\"answer\":\"refused 20 UnknownBranch\",\"number\":\"20\",\"name\":\"UnknownBranch\",\"sentence\":\"there is no branch of that name\",\"told\":[\"treasury: \\\"x\\\"\"],\"notes\":[]}\n"
 unfolding digits escaped lines_of sentence_of
 told = refl

@@ -1,14 +1,14 @@
 -- What a line asks, once its texts are read (own rule; docs/FORMATS.md, "Requests"): a journal by the grammar's
 -- relation, or by its first fault.
 use Rattle.std.specs.Prelude.{◌≡◌, ℕ, ℤ, ◌==◌, Bool, true, false, List, ◌⊎◌, Option, Some, None, option_map, Result, Ok}
-use Rattle.std.specs.Prelude.{Err}
+use Rattle.std.specs.Prelude.{Err, ◌&&◌, not, nat_lt, length, option_and_then, if◌then◌else◌}
 use Rattle.std.specs.List.{slice_split}
 use Rattle.money_core.specs.declared.style.Style.{Style}
 use Rattle.money_core.specs.declared.unit.Unit.{Unit}
 use Rattle.money_core.specs.declared.day.Day.{Day}
 use Rattle.money_core.specs.declared.cause.Cause.{Cause}
 use Rattle.money_core.specs.declared.cause.Fault.{Fault}
-use Rattle.money_core.specs.declared.cause.Cause.TheVariants.{Amount, Closed, Request as NoRequest}
+use Rattle.money_core.specs.declared.cause.Cause.TheVariants.{Amount, Closed, Changed, Request as NoRequest}
 use Rattle.money_core.specs.Sampling.{style_of}
 use Rattle.money_core.specs.Reading.{amount}
 use Rattle.book_core.specs.declared.refusal.Refusal.{Refusal}
@@ -16,7 +16,12 @@ use Rattle.book_core.specs.declared.refusal.Refusal.TheVariants.{Plain, Text}
 use Rattle.journal_format.specs.declared.txn.Located.{Located}
 use Rattle.journal_format.specs.Pieces.{Reads}
 use Rattle.journal_format.specs.Fault.{IsFirstFault}
+use Rattle.treasury_state.specs.Federation.{Federation, branch_at}
+use Rattle.treasury_core.specs.declared.command.Answer.{Answer}
+use Rattle.treasury_core.specs.declared.command.Answer.TheVariants.{Done, Entered, Repeated}
+use Rattle.treasury_core.specs.declared.command.Command.{Command as AnyCommand}
 use Rattle.treasury_core.specs.declared.command.Command.TheVariants as cmd
+use Rattle.treasury_core.specs.Step.{reply}
 use Rattle.treasury_requests.specs.declared.request.WrittenPart.{WrittenPart}
 use Rattle.treasury_requests.specs.declared.request.Spelled.{Spelled}
 use Rattle.treasury_requests.specs.declared.request.Request.{Request}
@@ -27,7 +32,7 @@ use Rattle.treasury_requests.specs.declared.request.Request.TheVariants.{Branche
 use Rattle.treasury_api.specs.declared.asking.Asked.{Asked}
 use Rattle.treasury_api.specs.declared.asking.Asked.TheVariants.{Command, DryRun, Report}
 use Rattle.treasury_api.specs.declared.report.Report.TheVariants as report
-use Rattle.treasury_requests.specs.Request.{spelled}
+use Rattle.treasury_requests.specs.Request.{spelled, branch_asked}
 
 -- a sample asks for a commodity in its style; a text that is none asks for nothing
 abbrev pub asked_by_sample : Option Style → Result Asked Refusal
@@ -103,19 +108,47 @@ abbrev pub or_dry_run : Bool → Result Asked Refusal → Result Asked Refusal
 or_dry_run false asked = asked
 or_dry_run true asked = as_dry_run asked
 
--- what a request asks, which may be a dry run
-abbrev pub SpelledAsks : List Style → Spelled → Result Asked Refusal → Type 0
-SpelledAsks styles spelled asked =
-    (said : Result Asked Refusal)
-    × (RequestAsks styles spelled.request said × (asked ≡ or_dry_run spelled.is_dry_run said))
+-- how many entries the branch has on whose book the request is a command, if it is there
+abbrev pub entries_asked : Federation → Request → Option ℕ
+entries_asked f request =
+    option_map (λ b. length b.records) (option_and_then (branch_at f.branches) (branch_asked request))
+
+-- another count of entries is expected than there is
+abbrev pub is_another : Option ℕ → Option ℕ → Bool
+is_another (Some expected) (Some count) = not (count == expected)
+is_another _ _ = false
+
+-- a reply by which something is added, received, locked or closed
+abbrev pub is_change : Result Answer Refusal → Bool
+is_change (Ok Done) = true
+is_change (Ok (Entered new repeated)) = nat_lt 0 new
+is_change (Ok Repeated) = false
+is_change (Err refusal) = false
+
+-- the branch has changed since the command was shown: it has another count of entries than is expected, and the command
+-- would change something
+abbrev pub has_changed : Federation → Spelled → AnyCommand → Bool
+has_changed f spelled c =
+    is_another spelled.terms.if_entries (entries_asked f spelled.request) && is_change (reply f c)
+
+-- what is asked, where the branch has not changed since it was shown
+abbrev pub unless_changed : Federation → Spelled → Result Asked Refusal → Result Asked Refusal
+unless_changed f spelled (Ok (Command c)) = if has_changed f spelled c then Err (Plain Changed) else Ok (Command c)
+unless_changed f spelled asked = asked
+
+-- what a request asks on its terms: a dry run of a command whose branch has changed is refused as the command is
+abbrev pub SpelledAsks : Federation → Spelled → Result Asked Refusal → Type 0
+SpelledAsks f spelled asked =
+    (said : Result Asked Refusal) × (RequestAsks f.styles spelled.request said
+    × (asked ≡ or_dry_run spelled.terms.is_dry_run (unless_changed f spelled said)))
 
 -- what a request asks of a treasury: what its texts say, or nothing, by 42, where a call of its database has failed
-abbrev pub AsksOf : Bool → List Style → Spelled → Result Asked Refusal → Type 0
-AsksOf false styles request asked = SpelledAsks styles request asked
-AsksOf true styles request asked = asked ≡ Err (Plain Closed)
+abbrev pub AsksOf : Bool → Federation → Spelled → Result Asked Refusal → Type 0
+AsksOf false f request asked = SpelledAsks f request asked
+AsksOf true f request asked = asked ≡ Err (Plain Closed)
 
 -- what a line asks: what its request does, or nothing where it spells none
-abbrev pub Asks : Bool → List Style → List ℕ → Result Asked Refusal → Type 0
-Asks failed styles line asked =
-    ((request : Spelled) × ((spelled line ≡ Some request) × AsksOf failed styles request asked))
+abbrev pub Asks : Bool → Federation → List ℕ → Result Asked Refusal → Type 0
+Asks failed f line asked =
+    ((request : Spelled) × ((spelled line ≡ Some request) × AsksOf failed f request asked))
     ⊎ ((spelled line ≡ None) × (asked ≡ Err (Plain NoRequest)))

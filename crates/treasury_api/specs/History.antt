@@ -32,7 +32,7 @@ after_line_turn s t = next s t.asked t.reply
 abbrev pub AreTurns : Standing → List LineTurn → Type 0
 AreTurns s [] = ⊤
 AreTurns s (t ∷ ts) =
-    Asks s.failed s.now.styles t.line t.asked × RepliesToLine s t.line t.asked t.reply
+    Asks s.failed s.now t.line t.asked × RepliesToLine s t.line t.asked t.reply
     × AreTurns (after_line_turn s t) ts
 
 -- where a run stands at their end

@@ -1,6 +1,6 @@
 -- A reply in JSON, if it is none of a report (own rule; docs/FORMATS.md, "Replies in JSON"): the line that answers, why
 -- it is refused, and what is said beside it.
-use Rattle.std.specs.Prelude.{◌≡◌, ℕ, true, List, [], ◌∷◌, ◌++◌, Result, Ok, Err, codes, decimal}
+use Rattle.std.specs.Prelude.{◌≡◌, ℕ, true, List, [], ◌∷◌, ◌++◌, Option, Some, None, Result, Ok, Err, codes, decimal}
 use Rattle.std.specs.Str.{is_utf8}
 use Rattle.money_core.specs.declared.style.Style.{Style}
 use Rattle.money_core.specs.declared.cause.Cause.{Cause}
@@ -28,20 +28,27 @@ abbrev pub refused_members : Result Answer Refusal → List (List ℕ × Held)
 refused_members (Ok answer) = []
 refused_members (Err refusal) = cause_members (cause_of refusal)
 
--- the members of the object of a reply: the line that answers, why it is refused, and the lines of what is told of a
--- refusal and noted of another answer
-abbrev pub reply_members : List Style → Result Answer Refusal → List ℕ → List ℕ → List (List ℕ × Held)
-reply_members styles reply told noted =
+-- the member that says how many entries the branch of a dry run has, where that is said
+abbrev pub entries_member : Option ℕ → List (List ℕ × Held)
+entries_member None = []
+entries_member (Some count) = (codes "entries", string (decimal count)) ∷ []
+
+-- the members of the object of a reply: the line that answers, why it is refused, the lines of what is told of a
+-- refusal and noted of another answer, and how many entries the branch has
+abbrev pub reply_members : List Style → Result Answer Refusal → List ℕ → List ℕ → Option ℕ
+    → List (List ℕ × Held)
+reply_members styles reply told noted entries =
     (codes "answer", string (json_line_text styles reply)) ∷ refused_members reply
-    ++ (codes "told", strings (lines_of told)) ∷ (codes "notes", strings (lines_of noted)) ∷ []
+    ++ (codes "told", strings (lines_of told)) ∷ (codes "notes", strings (lines_of noted)) ∷ entries_member entries
 
 -- the object, with a line feed after it
-abbrev pub reply_json : List Style → Result Answer Refusal → List ℕ → List ℕ → List ℕ
-reply_json styles reply told noted = object_text (reply_members styles reply told noted) ++ codes "\n"
+abbrev pub reply_json : List Style → Result Answer Refusal → List ℕ → List ℕ → Option ℕ → List ℕ
+reply_json styles reply told noted entries =
+    object_text (reply_members styles reply told noted entries) ++ codes "\n"
 
 -- the body of a reply: of a refusal something is told, of another answer noted, some text or none, in UTF-8
-abbrev pub IsJsonOf : List Style → Result Answer Refusal → List ℕ → Type 0
-IsJsonOf styles (Ok answer) body =
-    (noted : List ℕ) × (is_utf8 noted ≡ true) × (body ≡ reply_json styles (Ok answer) [] noted)
-IsJsonOf styles (Err refusal) body =
-    (told : List ℕ) × (is_utf8 told ≡ true) × (body ≡ reply_json styles (Err refusal) told [])
+abbrev pub IsJsonOf : Option ℕ → List Style → Result Answer Refusal → List ℕ → Type 0
+IsJsonOf entries styles (Ok answer) body =
+    (noted : List ℕ) × (is_utf8 noted ≡ true) × (body ≡ reply_json styles (Ok answer) [] noted entries)
+IsJsonOf entries styles (Err refusal) body =
+    (told : List ℕ) × (is_utf8 told ≡ true) × (body ≡ reply_json styles (Err refusal) told [] entries)

@@ -53,7 +53,7 @@ abbrev pub LeavesRequest : {S : Type 0} → Ghosts S → Treasury S → Treasury
 LeavesRequest g old new request =
     IsFaithful g new.store.conn → IsTrue (state g old.store.conn).is_open → (f : Federation)
     → IsTreasuryOf g old f
-    → (asked : Result Asked Refusal) → AsksOf old.store.failed f.styles request asked
+    → (asked : Result Asked Refusal) → AsksOf old.store.failed f request asked
     → LeavesAsked g new.store.conn f asked
 
 -- ---- one line of a run

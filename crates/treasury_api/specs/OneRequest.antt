@@ -40,7 +40,7 @@ pub record AnswersAs (s : Standing) (request : Spelled) (Says : Result Asked Ref
     (reply : Result Answer Refusal) (t : Standing) : Type 0 where
   pub asked : Result Asked Refusal
   pub days : HasDayNumbers request.request
-  pub asks : AsksOf s.failed s.now.styles request asked
+  pub asks : AsksOf s.failed s.now request asked
   pub replies : MayReplyAsked s asked reply
   pub text : Says asked reply
   pub left : t ≡ next s asked reply

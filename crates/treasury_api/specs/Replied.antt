@@ -58,7 +58,7 @@ IsReplied g failed new f asked result before written = IsRepliedIn form.Text g f
 abbrev pub IsAnsweredIn : {S T : Type 0} → Form → Ghosts S → Bool → Treasury S → Federation → Spelled
     → Result T Refusal → List ℕ → List ℕ → Type 0
 IsAnsweredIn form g failed new f request result before written =
-    (asked : Result Asked Refusal) × (AsksOf failed f.styles request asked
+    (asked : Result Asked Refusal) × (AsksOf failed f request asked
     × IsRepliedIn form g failed new f asked result before written)
 
 -- the same as text

@@ -75,7 +75,7 @@ RepliesToLine s line asked r = MayReplyAsked s asked r × (r ≡ Err (Plain Fail
 pub record Answers (s : Standing) (line answer : List ℕ) (t : Standing) : Type 0 where
   pub asked : Result Asked Refusal
   pub reply : Result Answer Refusal
-  pub asks : Asks s.failed s.now.styles line asked
+  pub asks : Asks s.failed s.now line asked
   pub replies : RepliesToLine s line asked reply
   pub text : answer ≡ reply_text s.now asked reply
   pub left : t ≡ next s asked reply

@@ -1,7 +1,7 @@
 -- HTTP over a treasury: what a call asks, what it is answered, and how a connection ends (own rules; docs/FORMATS.md,
 -- "HTTP"). What the bytes of a connection call for, `http_request` says.
 use mathlib.Core.Logic.{inl, inr}
-use Rattle.std.specs.Prelude.{◌≡◌, ◌<◌, ◌⊎◌, ℕ, false, List, [], ◌∷◌, ◌++◌, take, length, Option, Some, None}
+use Rattle.std.specs.Prelude.{◌≡◌, ◌<◌, ◌⊎◌, ℕ, true, false, List, [], ◌∷◌, ◌++◌, take, length, Option, Some, None}
 use Rattle.std.specs.Prelude.{option_map, Result, Ok, Err, MatchOption, MatchResult, IsTrue, codes, ⊤, if◌then◌else◌}
 use Rattle.std.specs.List.{AllByRecursion}
 use Rattle.std.specs.Io.KnownBytes.{Appends}
@@ -30,6 +30,7 @@ use Rattle.treasury_requests.specs.declared.request.Spelled.{Spelled}
 use Rattle.treasury_requests.specs.declared.request.Request.TheVariants as asking
 use Rattle.treasury_requests.specs.Request.{spelled, in_earnest}
 use Rattle.treasury_api.specs.declared.asking.Asked.{Asked}
+use Rattle.treasury_api.specs.Asked.{entries_asked}
 use Rattle.treasury_api.specs.declared.asking.Asked.TheVariants as meant
 use Rattle.treasury_api.specs.Report.{report_json}
 use Rattle.treasury_api.specs.Answer.{answer_text}
@@ -69,7 +70,7 @@ IsForbidden status body = (status ≡ 403) × (body ≡ codes "forbidden\n")
 -- the line of 44, or its object
 abbrev pub IsRefusal44 : Form → List ℕ → Type 0
 IsRefusal44 form.Text body = body ≡ answer_text [] (Err (Plain NoRequest))
-IsRefusal44 form.Json body = IsJsonOf [] (Err (Plain NoRequest)) body
+IsRefusal44 form.Json body = IsJsonOf None [] (Err (Plain NoRequest)) body
 
 -- 44, as it is replied to what is no request
 abbrev pub IsNoRequest : Form → ℕ → List ℕ → Type 0
@@ -84,14 +85,24 @@ IsNoAnswer form (Command branch text) status body =
     MatchOption (spelled text) (IsNoRequest form status body) (λ request. IsForbidden status body)
 IsNoAnswer form call status body = IsNoRequest form status body
 
+-- of how many entries it is told: of none, or in a dry run of those that its branch has
+abbrev pub TellsEntries : Federation → Spelled → Option ℕ → Type 0
+TellsEntries f request entries =
+    (entries ≡ None) ⊎ ((request.terms.is_dry_run ≡ true) × (entries ≡ entries_asked f request.request))
+
+-- the object of the reply to a request
+abbrev pub IsJsonTo : Spelled → Federation → Result Answer Refusal → List ℕ → Type 0
+IsJsonTo request f reply body =
+    (entries : Option ℕ) × (TellsEntries f request entries × IsJsonOf entries f.styles reply body)
+
 -- the body of a reply in a form: its text; or the object of a report, or that of the reply
-abbrev pub IsBodyIn : Form → List ℕ → Federation → Result Asked Refusal → Result Answer Refusal → Type 0
-IsBodyIn form.Text body f asked reply = body ≡ request_text f asked reply
-IsBodyIn form.Json body f (Ok (meant.Report report)) (Ok answer) = body ≡ report_json f report
-IsBodyIn form.Json body f (Ok (meant.Report report)) (Err refusal) = IsJsonOf f.styles (Err refusal) body
-IsBodyIn form.Json body f (Ok (meant.Command c)) reply = IsJsonOf f.styles reply body
-IsBodyIn form.Json body f (Ok (meant.DryRun c)) reply = IsJsonOf f.styles reply body
-IsBodyIn form.Json body f (Err refused) reply = IsJsonOf f.styles reply body
+abbrev pub IsBodyIn : Form → List ℕ → Spelled → Federation → Result Asked Refusal → Result Answer Refusal → Type 0
+IsBodyIn form.Text body request f asked reply = body ≡ request_text f asked reply
+IsBodyIn form.Json body request f (Ok (meant.Report report)) (Ok answer) = body ≡ report_json f report
+IsBodyIn form.Json body request f (Ok (meant.Report report)) (Err refusal) = IsJsonTo request f (Err refusal) body
+IsBodyIn form.Json body request f (Ok (meant.Command c)) reply = IsJsonTo request f reply body
+IsBodyIn form.Json body request f (Ok (meant.DryRun c)) reply = IsJsonTo request f reply body
+IsBodyIn form.Json body request f (Err refused) reply = IsJsonTo request f reply body
 
 -- A call is answered in a form, and leads on: its request as any is, by a reply that gives the status.
 abbrev pub AnswersCall : Standing → Form → Call → ℕ → List ℕ → Standing → Type 0
@@ -99,7 +110,7 @@ AnswersCall s form call status body t =
     ((asked_by call ≡ None) × IsNoAnswer form call status body × (t ≡ s))
     ⊎ ((request : Spelled) × (asked_by call ≡ Some request)
     × ((reply : Result Answer Refusal)
-    × (AnswersAs s request (IsBodyIn form body s.now) reply t × (status ≡ status_of reply))))
+    × (AnswersAs s request (IsBodyIn form body request s.now) reply t × (status ≡ status_of reply))))
 
 -- a database that was open is open after each reply, or the reply is 503 and the store has failed
 abbrev pub IsOpenButFailed : {S : Type 0} → Ghosts S → Treasury S → ℕ → Treasury S → Type 0

@@ -15,7 +15,7 @@ use Rattle.treasury_core.specs.declared.command.Answer.{Answer}
 abbrev pub status_of_number : ℕ → ℕ
 status_of_number nr =
     if nr == 44 then 400
-    else if (nat_le 20 nr && nat_le nr 39) || (nr == 47) then 409
+    else if (nat_le 20 nr && nat_le nr 39) || (nat_le 47 nr && nat_le nr 48) then 409
     else if nat_le 1 nr && nat_le nr 18 then 422
     else if nr == 43 then 500
     else 503

@@ -1,6 +1,6 @@
 -- Mirrors code: how a call is answered, part by part.
 use Rattle.std.specs.Prelude.{◌≡◌, ◌<◌, ◌-◌, ◌⊎◌, ⊤, ℕ, true, List, [], ◌∷◌, ◌++◌, length, take, Option, Some, None}
-use Rattle.std.specs.Prelude.{Err, IsTrue, codes, decimal, if◌then◌else◌}
+use Rattle.std.specs.Prelude.{Err, IsTrue, codes, decimal, if◌then◌else◌, option_and_then}
 use Rattle.std.specs.Str.{is_utf8}
 use Rattle.json_text.specs.JsonText.{string, strings, object_text, lines_of}
 use Rattle.money_core.specs.Cause.{cause_number, cause_name}
@@ -22,6 +22,8 @@ use Rattle.treasury_api.specs.declared.web.status.Status.TheVariants.{Done, BadR
 use Rattle.treasury_api.specs.declared.web.status.Status.TheVariants.{Unprocessable, Internal, Unavailable}
 use Rattle.treasury_api.specs.WebReply.{cause_of}
 use Rattle.treasury_api.specs.Left.{LeavesRequest}
+use Rattle.treasury_api.specs.Asked.{entries_asked}
+use Rattle.treasury_api.specs.JsonReply.{entries_member}
 use Rattle.treasury_api.specs.Web.{asked_by, IsRefusal44, IsNoAnswer, IsOpenButFailed}
 use Rattle.treasury_api.specs.BranchCommand.{is_command_of}
 use Rattle.http_request.specs.declared.call.Call.{Call}
@@ -91,34 +93,41 @@ abbrev pub IsToldBy : {S : Type 0} → Treasury S → Refusal → Cause → List
 IsToldBy t (Plain because) cause text = (text ≡ answer_text [] (Err (Plain because))) × (cause ≡ because)
 IsToldBy t refusal cause text = (s : Federation) × ((t.held ≡ Some s) × IsLineBy s.styles refusal cause text)
 
--- the object of an answer that is no refusal, by its line and what is noted
-abbrev pub done_json : List ℕ → List ℕ → List ℕ
-done_json line noted =
-    object_text ((codes "answer", string line) ∷ (codes "told", strings (lines_of []))
-    ∷ (codes "notes", strings (lines_of noted)) ∷ []) ++ codes "\n"
+-- how many entries the branch has that a dry run is on, as far as the state is in memory
+abbrev pub entries_told : Option Federation → Spelled → Option ℕ
+entries_told held request =
+    if request.terms.is_dry_run then option_and_then (λ f. entries_asked f request.request) held else None
 
--- that of a refusal, by its line, its number, its name, its sentence and what is told
-abbrev pub refusal_json : List ℕ → List ℕ → List ℕ → List ℕ → List ℕ → List ℕ
-refusal_json line nr name sentence told =
+-- the object of an answer that is no refusal, by its line, what is noted, and the entries of its branch
+abbrev pub done_json : List ℕ → List ℕ → Option ℕ → List ℕ
+done_json line noted entries =
+    object_text ((codes "answer", string line) ∷ (codes "told", strings (lines_of []))
+    ∷ (codes "notes", strings (lines_of noted)) ∷ entries_member entries) ++ codes "\n"
+
+-- that of a refusal, by its line, its number, its name, its sentence, what is told, and those entries
+abbrev pub refusal_json : List ℕ → List ℕ → List ℕ → List ℕ → List ℕ → Option ℕ → List ℕ
+refusal_json line nr name sentence told entries =
     object_text ((codes "answer", string line) ∷ (codes "number", string nr) ∷ (codes "name", string name)
     ∷ (codes "sentence", string sentence) ∷ (codes "told", strings (lines_of told))
-    ∷ (codes "notes", strings (lines_of [])) ∷ []) ++ codes "\n"
+    ∷ (codes "notes", strings (lines_of [])) ∷ entries_member entries) ++ codes "\n"
 
--- the same by its line, its cause and what is told
-abbrev pub refused_json : List ℕ → Cause → List ℕ → List ℕ
-refused_json line cause told =
-    refusal_json line (decimal (cause_number cause)) (cause_name cause) (sentence_of cause) told
+-- the same by its line, its cause, what is told, and those entries
+abbrev pub refused_json : List ℕ → Cause → List ℕ → Option ℕ → List ℕ
+refused_json line cause told entries =
+    refusal_json line (decimal (cause_number cause)) (cause_name cause) (sentence_of cause) told entries
 
 -- something in UTF-8 is noted, or told
-abbrev pub IsJsonDone : List ℕ → List ℕ → Type 0
-IsJsonDone line body = (noted : List ℕ) × (is_utf8 noted ≡ true) × (body ≡ done_json line noted)
+abbrev pub IsJsonDone : List ℕ → Option ℕ → List ℕ → Type 0
+IsJsonDone line entries body = (noted : List ℕ) × (is_utf8 noted ≡ true) × (body ≡ done_json line noted entries)
 
-abbrev pub IsJsonRefused : List ℕ → Cause → List ℕ → Type 0
-IsJsonRefused line cause body = (told : List ℕ) × (is_utf8 told ≡ true) × (body ≡ refused_json line cause told)
+abbrev pub IsJsonRefused : List ℕ → Cause → Option ℕ → List ℕ → Type 0
+IsJsonRefused line cause entries body =
+    (told : List ℕ) × (is_utf8 told ≡ true) × (body ≡ refused_json line cause told entries)
 
 -- the object of a refusal of that text, or that of 40 in place of one whose text is longer than a plain one; and whose
 -- it is
-abbrev pub IsJsonRefusal : List ℕ → Cause → Cause → List ℕ → Type 0
-IsJsonRefusal text because cause body =
-    (IsJsonRefused (take (length text - 1) text) because body × (cause ≡ because))
-    ⊎ ((64 < length text) × IsJsonRefused (codes "refused 40 OutOfMemory") OutOfMemory body × (cause ≡ OutOfMemory))
+abbrev pub IsJsonRefusal : List ℕ → Cause → Option ℕ → Cause → List ℕ → Type 0
+IsJsonRefusal text because entries cause body =
+    (IsJsonRefused (take (length text - 1) text) because entries body × (cause ≡ because))
+    ⊎ ((64 < length text) × IsJsonRefused (codes "refused 40 OutOfMemory") OutOfMemory None body
+    × (cause ≡ OutOfMemory))

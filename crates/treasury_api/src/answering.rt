@@ -60,9 +60,10 @@ fn answer_command<S: Alter>(
 /// repeated, or would be in a dry run, which performs nothing, in whatever form; or in this form what a report is
 /// answered with, without the `ok` after its lines.
 ///
-/// It refuses as the texts of the request, the command or the report are refused, and 40 to 43 as the treasury; the
-/// vector is then as it was. The room for the line of a command is made before it is performed. A call of the database
-/// fails just where it answers 41, and then every later call answers 42 and changes nothing.
+/// It refuses as the texts of the request, the command or the report are refused, by 48 where the branch has changed
+/// since the command was shown, and 40 to 43 as the treasury; the vector is then as it was. The room for the line of a
+/// command is made before it is performed. A call of the database fails just where it answers 41, and then every later
+/// call answers 42 and changes nothing.
 pub fn answer<S: Alter>(
     alloc: Global,
     form: Form,
@@ -101,7 +102,7 @@ pub fn answer<S: Alter>(
         unreachable!()
     };
     state.is_good();
-    match asked_by(alloc, state.styles(), request) {
+    match asked_by(alloc, state, request) {
         Ok(Asked::Command(command)) => answer_command(alloc, treasury, command, out),
         Ok(Asked::DryRun(command)) => answer_dry_run(alloc, state, &command, out),
         Ok(Asked::Report(report)) => match push_report_in(alloc, form, state, &report, out) {

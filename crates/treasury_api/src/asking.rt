@@ -6,18 +6,22 @@ ghost use Rattle.money_core.specs.declared.style.Style.{Style};
 ghost use Rattle.money_core.specs.Sampling.{style_of};
 ghost use Rattle.money_core.specs.Reading.{amount};
 ghost use Rattle.journal_lines.specs.Date.{IsDayNumber};
+ghost use Rattle.treasury_core.specs.Fits.{Fits};
+ghost use Rattle.treasury_core.specs.Step.{reply};
 ghost use Rattle.treasury_api.specs.Asked.{asked_by_sample, asked_by_amount, asked_by_part, asked_by_receipt, cut_list};
 ghost use Rattle.treasury_api.specs.Asked.{JournalAsks, RequestAsks, SpelledAsks, or_dry_run};
+ghost use Rattle.treasury_api.specs.Asked.{entries_asked, is_another, is_change, has_changed, unless_changed};
 ghost use Rattle.treasury_requests.specs.Request.{HasDayNumbers, is_report};
 ghost use Rattle.treasury_api.specs.Serving.{IsReady, OrMemory};
 
 use crate::report::Report;
-use book_core::Refusal;
+use book_core::{Ledger, Refusal};
 use journal_format::read_journal;
 use money_core::{Cause, Copied, Day, Items, Styles, Text, read_amount, read_style};
 use std::alloc::Global;
-use treasury_core::{AskedPart, Choice, Close, Command, Dispatch, Receive};
+use treasury_core::{Answer, AskedPart, Choice, Close, Command, Dispatch, Receive, State, foresee};
 use treasury_requests::{Request, Spelled, WrittenPart};
+use treasury_state::find_branch;
 
 /// What is asked of the treasury.
 #[derive(Drop)]
@@ -323,15 +327,103 @@ fn or_dry_run(is_dry_run: bool, asked: Asked) -> Asked
     }
 }
 
-/// What the request asks: a command that fits the commodities, to be performed or as a dry run, or a report. Or the
-/// first fault of its texts; 40 for want of memory. Each of these refusals can be printed.
-pub fn asked_by(alloc: Global, styles: &Styles, request: &Spelled) -> Result<Asked, Refusal>
-    requires { HasDayNumbers request.now.request }
-    ensures asks { OrMemory (SpelledAsks styles.now request.now) result }
-    ensures ready { IsReady styles.now result }
+/// How many entries the branch has on whose book the request is a command, if it is there.
+pub fn entries_asked<L: Ledger>(state: &State<L>, request: &Request) -> Option<usize>
+    ensures { result ≡ entries_asked state.now request.now }
 {
-    match asked_by_request(alloc, styles, &request.request) {
-        Ok(asked) => Ok(or_dry_run(request.is_dry_run, asked)),
+    let branch = find_branch(state, request.branch()?.as_str())?;
+    Some(branch.records.items().len())
+}
+
+/// Whether the command would change something.
+fn would_change<L: Ledger>(
+    alloc: Global,
+    state: &State<L>,
+    command: &Command,
+) -> Result<bool, Refusal>
+    requires { Fits state.now.styles command.now }
+    ensures value { IfOk result (λ changes. changes ≡ is_change (reply state.now command.now)) }
+    ensures memory { IsOkUnless result (Refusal.Plain Cause.OutOfMemory) }
+{
+    match foresee(alloc, state, command) {
+        Ok(Answer::Done) => Ok(true),
+        Ok(Answer::Entered { new, .. }) => Ok(new > 0),
+        Ok(Answer::Repeated) => Ok(false),
+        Err(Refusal::Plain(Cause::OutOfMemory)) => Err(NO_MEMORY),
+        Err(_) => Ok(false),
+    }
+}
+
+/// Whether another count of entries is expected than there is.
+fn is_another(expected: Option<u32>, count: Option<usize>) -> bool
+    ensures { result ≡ is_another expected count }
+{
+    match (expected, count) {
+        (Some(expected), Some(count)) => count != expected as usize,
+        _ => false,
+    }
+}
+
+/// Whether the branch has changed since the command was shown.
+fn has_changed<L: Ledger>(
+    alloc: Global,
+    state: &State<L>,
+    request: &Spelled,
+    command: &Command,
+) -> Result<bool, Refusal>
+    requires { Fits state.now.styles command.now }
+    ensures value { IfOk result (λ changed. changed ≡ has_changed state.now request.now command.now) }
+    ensures memory { IsOkUnless result (Refusal.Plain Cause.OutOfMemory) }
+{
+    let count = entries_asked(state, &request.request);
+    if is_another(request.terms.if_entries, count) {
+        would_change(alloc, state, command)
+    } else {
+        Ok(false)
+    }
+}
+
+/// What is asked, where the branch has not changed since it was shown.
+fn unless_changed<L: Ledger>(
+    alloc: Global,
+    state: &State<L>,
+    request: &Spelled,
+    asked: Asked,
+) -> Result<Asked, Refusal>
+    requires { IsReady state.now.styles (Ok asked) }
+    ensures asks { OrMemory (λ kept. kept ≡ unless_changed state.now request.now (Ok asked)) result }
+    ensures ready { IsReady state.now.styles result }
+{
+    match asked {
+        Asked::Command(command) => {
+            if has_changed(alloc, state, request, &command)? {
+                Err(Refusal::Plain(Cause::Changed))
+            } else {
+                Ok(Asked::Command(command))
+            }
+        }
+        Asked::DryRun(command) => Ok(Asked::DryRun(command)),
+        Asked::Report(report) => Ok(Asked::Report(report)),
+    }
+}
+
+/// What the request asks in this state, on its terms: a command that fits the commodities, to be performed or as a dry
+/// run, or a report. Or the first fault of its texts; 48 where its branch has changed; 40 for want of memory. Each of
+/// these refusals can be printed.
+pub fn asked_by<L: Ledger>(
+    alloc: Global,
+    state: &State<L>,
+    request: &Spelled,
+) -> Result<Asked, Refusal>
+    requires { HasDayNumbers request.now.request }
+    ensures asks { OrMemory (SpelledAsks state.now request.now) result }
+    ensures ready { IsReady state.now.styles result }
+{
+    match asked_by_request(alloc, state.styles(), &request.request) {
+        Ok(asked) => match unless_changed(alloc, state, request, asked) {
+            Ok(asked) => Ok(or_dry_run(request.terms.is_dry_run, asked)),
+            Err(refusal) => Err(refusal),
+        },
         Err(refusal) => Err(refusal),
     }
 }

@@ -45,10 +45,10 @@ pub fn additions_ahead<L: Ledger>(
     request: &Spelled,
 ) -> Option<Delta>
     requires { HasDayNumbers request.now.request }
-    ensures { IfSome result (λ added. (c : AnyCommand) × (SpelledAsks state.now.styles request.now (Ok (DryRun c))
+    ensures { IfSome result (λ added. (c : AnyCommand) × (SpelledAsks state.now request.now (Ok (DryRun c))
         × (added ≡ delta state.now c (reply state.now c)))) }
 {
-    match asked_by(alloc, state.styles(), request) {
+    match asked_by(alloc, state, request) {
         Ok(Asked::DryRun(command)) => match decide(alloc, state, &command) {
             Ok((_, added)) => Some(added),
             Err(_) => None,

@@ -79,7 +79,7 @@ pub fn notes_on<L: Ledger>(
 ) -> Vec<u8>
     requires { HasDayNumbers request.now.request }
 {
-    let mut notes = if request.is_dry_run {
+    let mut notes = if request.terms.is_dry_run {
         notes_ahead(alloc, state, request, source)
     } else {
         notes_after(alloc, state, request, source, held)
@@ -104,7 +104,7 @@ pub fn said_beside<L: Ledger>(
         Some(refusal) => reason_of(alloc, state, request, JOURNAL, refusal),
         None => notes_on(alloc, state, request, JOURNAL, held),
     };
-    if request.is_dry_run {
+    if request.terms.is_dry_run {
         let _ = said.extend_from_slice(NOTHING_ENTERED.as_bytes());
     }
     said

@@ -1,10 +1,11 @@
 -- Mirrors code: the members of the JSON object of a request, and where a line of a head ends.
-use Rattle.std.specs.Prelude.{◌≡◌, ◌⊎◌, ℕ, Bool, List, [], ◌∷◌, Option, Some, None, codes, if◌then◌else◌}
+use Rattle.std.specs.Prelude.{◌≡◌, ◌⊎◌, ℕ, Bool, List, [], ◌∷◌, Option, Some, None, codes, decimal, if◌then◌else◌}
 use Rattle.serde_json.specs.Data.{Data, string, object, Members, no_members, put}
 use Rattle.journal_lines.specs.Date.{printed_date}
 use Rattle.money_core.specs.declared.day.Day.{Day}
 use Rattle.treasury_requests.specs.declared.request.WrittenPart.{WrittenPart}
 use Rattle.treasury_requests.specs.declared.request.Spelled.{Spelled}
+use Rattle.treasury_requests.specs.declared.request.Terms.{Terms}
 use Rattle.treasury_requests.specs.declared.request.Request.{Request}
 use Rattle.treasury_requests.specs.declared.request.Request.TheVariants.{Branch, Commodity, Import, Dispatch}
 use Rattle.treasury_requests.specs.declared.request.Request.TheVariants.{Receive, Lock}
@@ -67,9 +68,18 @@ with_request (Transfers day) ms = with_day_key day (with_word (codes "transfers"
 abbrev pub with_dry_run : Bool → Members → Members
 with_dry_run dry ms = if dry then with_text (codes "dry-run") (codes "yes") ms else ms
 
+-- with the key of how many entries the branch has to have, where that is said
+abbrev pub with_if_entries : Option ℕ → Members → Members
+with_if_entries None ms = ms
+with_if_entries (Some count) ms = with_text (codes "if-entries") (decimal count) ms
+
+-- with the keys of the terms
+abbrev pub with_terms : Terms → Members → Members
+with_terms terms ms = with_if_entries terms.if_entries (with_dry_run terms.is_dry_run ms)
+
 -- the object of a request
 abbrev pub object_of : Spelled → Data
-object_of s = object (with_dry_run s.is_dry_run (with_request s.request no_members))
+object_of s = object (with_terms s.terms (with_request s.request no_members))
 
 -- a line ends before this: there is nothing more, or a CR
 abbrev pub EndsLine : List ℕ → Type 0

@@ -1,5 +1,5 @@
 -- What is sent to a running service (own rules; docs/RULES.md, "The program"; docs/FORMATS.md, "HTTP").
-use Rattle.std.specs.Prelude.{◌≡◌, ℕ, true, false, List, [], ◌++◌, length, codes, decimal, ⊤}
+use Rattle.std.specs.Prelude.{◌≡◌, ◌<◌, ℕ, IfSome, true, false, List, [], ◌++◌, length, codes, decimal, ⊤}
 use Rattle.std.specs.Str.{is_utf8}
 use Rattle.treasury_requests.specs.declared.request.Spelled.{Spelled}
 use Rattle.treasury_requests.specs.declared.request.Request.{Request}
@@ -7,7 +7,7 @@ use Rattle.treasury_requests.specs.declared.request.Request.TheVariants.{Branch,
 use Rattle.treasury_requests.specs.declared.request.Request.TheVariants.{Receive, Lock}
 use Rattle.treasury_requests.specs.declared.request.Request.TheVariants.{Close, Balance, Register, Transit, Journal}
 use Rattle.treasury_requests.specs.declared.request.Request.TheVariants.{Branches, Commodities, Accounts, Transfers}
-use Rattle.treasury_requests.specs.Request.{is_report}
+use Rattle.treasury_requests.specs.Request.{is_report, is_on_a_book}
 use Rattle.treasury_client.specs.declared.call.Form.{Form}
 use Rattle.treasury_client.specs.declared.call.Form.TheVariants.{Text, Json}
 
@@ -16,9 +16,11 @@ abbrev pub HasText : Request → Type 0
 HasText (Import branch journal) = is_utf8 journal ≡ true
 HasText _ = ⊤
 
--- there is a text that spells it: no report is a dry run
-abbrev pub IsSendable : Spelled → Type 0
-IsSendable request = is_report request.request ≡ true → request.is_dry_run ≡ false
+-- there is a text that spells it: no report is a dry run; and only what is on one book says how many entries that has
+-- to have, in at most 5 digits
+pub record IsSendable (spelled : Spelled) : Type 0 where
+  pub dry_run : is_report spelled.request ≡ true → spelled.terms.is_dry_run ≡ false
+  pub on_a_book : IfSome spelled.terms.if_entries (λ n. (is_on_a_book spelled.request ≡ true) × (n < 100_000))
 
 -- the header that asks for a reply in that form
 abbrev pub accept : Form → List ℕ

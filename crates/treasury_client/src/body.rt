@@ -8,13 +8,14 @@ ghost use Rattle.treasury_requests.specs.Request.{spelled, is_report, HasDayNumb
 ghost use Rattle.treasury_requests.specs.declared.request.Request.TheVariants.{Dispatch, Receive, Close, Register};
 ghost use Rattle.treasury_client.specs.Sending.{IsSendable, HasText};
 ghost use Rattle.treasury_client.specs.Parts.{with_text, with_day_key, with_optional, with_part_keys, with_request};
-ghost use Rattle.treasury_client.specs.Parts.{with_word, with_branch_key, with_dry_run};
+ghost use Rattle.treasury_client.specs.Parts.{with_word, with_branch_key, with_dry_run, with_if_entries, with_terms};
 
+use itoa::Buffer;
 use journal_lines::print_date;
 use money_core::{Cause, Day, Text};
 use serde_json::{Map, Value, put};
 use std::alloc::Global;
-use treasury_requests::{Bytes, Request, Spelled, WrittenPart};
+use treasury_requests::{Bytes, Request, Spelled, Terms, WrittenPart};
 
 /// The members of a JSON object.
 type Members = Map<String, Value>;
@@ -284,6 +285,35 @@ fn put_dry_run(members: &mut Members, alloc: Global, is_dry_run: bool) -> Result
     }
 }
 
+/// Puts the key of how many entries the branch has to have, where that is said.
+fn put_if_entries(
+    members: &mut Members,
+    alloc: Global,
+    if_entries: Option<u32>,
+) -> Result<(), Cause>
+    ensures ok { OnOk result (members_view members.new.entries
+        ≡ with_if_entries if_entries (members_view members.old.entries)) }
+    ensures memory { IfErr result (λ cause. cause ≡ Cause.OutOfMemory) }
+{
+    match if_entries {
+        Some(count) => {
+            let mut digits = Buffer::new();
+            put_text(members, alloc, "if-entries", digits.format(count))
+        }
+        None => Ok(()),
+    }
+}
+
+/// Puts the keys of the terms.
+fn put_terms(members: &mut Members, alloc: Global, terms: Terms) -> Result<(), Cause>
+    ensures ok { OnOk result (members_view members.new.entries
+        ≡ with_terms terms (members_view members.old.entries)) }
+    ensures memory { IfErr result (λ cause. cause ≡ Cause.OutOfMemory) }
+{
+    put_dry_run(members, alloc, terms.is_dry_run)?;
+    put_if_entries(members, alloc, terms.if_entries)
+}
+
 /// The JSON text that spells a request: the body of the call that asks for it.
 ///
 /// Answers 1 where the request has a journal that is not UTF-8, as no text spells that, and 40.
@@ -299,7 +329,7 @@ pub fn body_of(alloc: Global, request: &Spelled) -> Result<String, Cause>
         Ok(()) => {}
         Err(cause) => return Err(cause),
     }
-    match put_dry_run(&mut members, alloc, request.is_dry_run) {
+    match put_terms(&mut members, alloc, request.terms) {
         Ok(()) => {}
         Err(cause) => return Err(cause),
     }

@@ -3,6 +3,7 @@ use Rattle.std.specs.Prelude.{◌≡◌, List, [], ℕ, Option, Some, None, opti
 use Rattle.serde_json.proofs.OnLiterals.{serde_json_on_literals}
 use Rattle.serde_json.specs.Read.{read}
 use Rattle.journal_lines.specs.DateReading.{date_of}
+use Rattle.journal_lines.specs.Number.{entry_count}
 use Rattle.treasury_requests.specs.declared.fault.words.Word.TheVariants as word
 use Rattle.treasury_requests.specs.declared.fault.words.Key.TheVariants as key
 use Rattle.treasury_requests.specs.declared.fault.Kind.TheVariants as kind
@@ -72,3 +73,19 @@ pub report : fault_in (codes "{\"do\":\"journal\",\"branch\":\"x\",\"dry-run\":\
     ≡ Some (by.OtherKeys word.Journal (Some (codes "dry-run")))
 unfolding serde_json_on_literals
 report = refl
+
+-- the value of a key that a request may not have is not looked at
+pub foreign_day : fault_in (codes "{\"do\":\"branches\",\"day\":\"x\"}")
+    ≡ Some (by.OtherKeys word.Branches (Some (codes "day")))
+unfolding serde_json_on_literals
+foreign_day = refl
+
+pub foreign_choice : fault_in (codes "{\"do\":\"branches\",\"dry-run\":\"x\"}")
+    ≡ Some (by.OtherKeys word.Branches (Some (codes "dry-run")))
+unfolding serde_json_on_literals
+foreign_choice = refl
+
+pub no_count : fault_in (codes "{\"do\":\"import\",\"branch\":\"x\",\"journal\":\"\",\"if-entries\":\"x\"}")
+    ≡ Some (by.NoCount (codes "x"))
+unfolding serde_json_on_literals entry_count
+no_count = refl

@@ -48,6 +48,6 @@ form_view CommoditiesForm = Commodities
 form_view (AccountsForm branch) = Accounts branch.now
 form_view (TransfersForm day) = Transfers day
 
--- the same of a form that may be a dry run
+-- the same of a form with its terms
 abbrev pub shown_whole : SpelledForm → Spelled
-shown_whole s = record { request = form_view s.form; is_dry_run = s.is_dry_run }
+shown_whole s = record { request = form_view s.form; terms = s.terms }

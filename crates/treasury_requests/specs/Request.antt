@@ -1,7 +1,7 @@
 -- The requests (own rule; docs/FORMATS.md, "Requests"). A request is one JSON object, and each of its values is a text.
 -- What JSON is, `serde_json` says: arrays and objects nest 127 deep, and of a key that is written twice the last one
 -- stays.
-use Rattle.std.specs.Prelude.{ℕ, ◌+◌, ◌-◌, Bool, ◌==◌, ◌&&◌, if◌then◌else◌, List, codes, ⊤, true, false}
+use Rattle.std.specs.Prelude.{ℕ, ◌+◌, ◌-◌, Bool, ◌==◌, ◌&&◌, ◌||◌, not, if◌then◌else◌, List, codes, ⊤, true, false}
 use Rattle.std.specs.Prelude.{Option, Some, None, is_some, option_map, option_and_then}
 use Rattle.std.specs.Str.{bytes_eq, is_utf8}
 use Rattle.serde_json.specs.Data.{Data, null, boolean, number, string, array, object, Members, no_members, member}
@@ -10,7 +10,9 @@ use Rattle.serde_json.specs.Read.{read}
 use Rattle.money_core.specs.declared.day.Day.{Day}
 use Rattle.journal_lines.specs.Date.{IsDayNumber}
 use Rattle.journal_lines.specs.DateReading.{date_of}
+use Rattle.journal_lines.specs.Number.{entry_count}
 use Rattle.treasury_requests.specs.declared.request.WrittenPart.{WrittenPart}
+use Rattle.treasury_requests.specs.declared.request.Terms.{Terms}
 use Rattle.treasury_requests.specs.declared.request.Spelled.{Spelled}
 use Rattle.treasury_requests.specs.declared.request.Request.{Request}
 use Rattle.treasury_requests.specs.declared.request.Request.TheVariants.{Branch, Commodity, Import, Dispatch}
@@ -44,15 +46,19 @@ key_count (object ms) = count_members ms
 abbrev pub dry_run_key : List ℕ
 dry_run_key = codes "dry-run"
 
--- it is there
-abbrev pub has_dry_run_key : Data → Bool
-has_dry_run_key d = is_some (get dry_run_key d)
+-- the key of how many entries the branch has to have
+abbrev pub if_entries_key : List ℕ
+if_entries_key = codes "if-entries"
 
--- how many keys an object has beside it
+-- a key counts, if it is there
+abbrev pub key_at : List ℕ → Data → ℕ
+key_at key d = if is_some (get key d) then 1 else 0
+
+-- how many keys an object has beside these two
 abbrev pub form_keys : Data → ℕ
-form_keys d = if has_dry_run_key d then key_count d - 1 else key_count d
+form_keys d = key_count d - key_at dry_run_key d - key_at if_entries_key d
 
--- the word of `do` is this one, and there are so many keys with `do`; that of a dry run is not counted
+-- the word of `do` is this one, and there are so many keys with `do`; those of the terms are not counted
 abbrev pub is_form : List ℕ → ℕ → List ℕ → Data → Bool
 is_form name keys word d = bytes_eq word name && (form_keys d == keys)
 
@@ -184,23 +190,55 @@ yes_or_no text =
     else if bytes_eq text (codes "no") then Some false
     else None
 
--- a request in earnest: no dry run
+-- the branch on whose book the request is a command: that which takes entries, or is locked
+abbrev pub branch_asked : Request → Option (List ℕ)
+branch_asked (Import branch journal) = Some branch
+branch_asked (Dispatch id from to day amount account) = Some from
+branch_asked (Receive id branch day account part) = Some branch
+branch_asked (Lock branch day) = Some branch
+branch_asked (Close branch day accounts into) = Some branch
+branch_asked _ = None
+
+abbrev pub is_on_a_book : Request → Bool
+is_on_a_book request = is_some (branch_asked request)
+
+-- the request in earnest, whatever its branch has
 abbrev pub in_earnest : Request → Spelled
-in_earnest request = record { request = request; is_dry_run = false }
+in_earnest request = record { request = request; terms = record { is_dry_run = false; if_entries = None } }
 
--- a request that has the key of a dry run: it asks for no report
-abbrev pub with_key : Request → Bool → Option Spelled
-with_key request dry = if is_report request then None else Some (record { request = request; is_dry_run = dry })
+-- whether it is a dry run, by what stands at that key
+abbrev pub dry_run_by : Option Data → Option Bool
+dry_run_by None = Some false
+dry_run_by (Some said) = option_and_then yes_or_no (as_str said)
 
--- a request, as what stands at the key of a dry run has it
-abbrev pub spelled_by : Option Data → Request → Option Spelled
-spelled_by None request = Some (in_earnest request)
-spelled_by (Some said) request = option_and_then (with_key request) (option_and_then yes_or_no (as_str said))
+-- how many entries the branch has to have, by what stands at that key
+abbrev pub if_entries_by : Option Data → Option (Option ℕ)
+if_entries_by None = Some None
+if_entries_by (Some said) = option_map Some (option_and_then entry_count (as_str said))
 
--- the request that an object is, and whether it is a dry run
+-- the terms that an object says
+abbrev pub terms_at : Data → Option Terms
+terms_at d =
+    option_and_then (λ dry. option_map (λ entries. record { is_dry_run = dry; if_entries = entries })
+    (if_entries_by (get if_entries_key d))) (dry_run_by (get dry_run_key d))
+
+-- the request may have the keys of terms that are there: no report is a dry run, and only what is on one book looks at
+-- the entries of its branch
+abbrev pub may_have_terms : Data → Request → Bool
+may_have_terms d request =
+    (not (is_some (get dry_run_key d)) || not (is_report request))
+    && (not (is_some (get if_entries_key d)) || is_on_a_book request)
+
+-- a request on the terms that the object says
+abbrev pub spelled_by : Data → Request → Option Spelled
+spelled_by d request =
+    if may_have_terms d request then option_map (λ terms. record { request = request; terms = terms }) (terms_at d)
+    else None
+
+-- the request that an object is, and on what terms
 abbrev pub request_of : Data → Option Spelled
 request_of d =
-    option_and_then (λ word. option_and_then (spelled_by (get dry_run_key d)) (form word d)) (text_at (codes "do") d)
+    option_and_then (λ word. option_and_then (spelled_by d) (form word d)) (text_at (codes "do") d)
 
 -- the request that bytes spell: they are UTF-8, and JSON of one of the forms
 unfoldable pub spelled : List ℕ → Option Spelled

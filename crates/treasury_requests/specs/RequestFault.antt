@@ -10,6 +10,7 @@ use Rattle.serde_json.specs.Data.{Data, null, boolean, number, string, array, ob
 use Rattle.serde_json.specs.Find.{get}
 use Rattle.serde_json.specs.Read.{read}
 use Rattle.journal_lines.specs.DateReading.{date_of}
+use Rattle.journal_lines.specs.Number.{entry_count}
 use Rattle.treasury_requests.specs.declared.fault.words.Word.{Word}
 use Rattle.treasury_requests.specs.declared.fault.words.Word.TheVariants as word
 use Rattle.treasury_requests.specs.declared.fault.words.Key.{Key}
@@ -106,12 +107,16 @@ odd_fault_in d ks = option_and_then (odd_fault_at d) (find (is_odd d) ks)
 abbrev pub odd_fault : Word → Data → Option RequestFault
 odd_fault w d = option_or (odd_fault_in d (needed w)) (odd_fault_in d (further w))
 
+-- the text at a key that the request of a word may have
+abbrev pub own_text_at : Word → Data → Key → Option (List ℕ)
+own_text_at w d k = if may_have w (key_name k) then text_at (key_name k) d else None
+
 -- its day is no date
 abbrev pub date_fault_in : List ℕ → Option RequestFault
 date_fault_in text = if is_some (date_of text) then None else Some (by.NoDate text)
 
-abbrev pub date_fault : Data → Option RequestFault
-date_fault d = option_and_then date_fault_in (text_at (key_name key.Day) d)
+abbrev pub date_fault : Word → Data → Option RequestFault
+date_fault w d = option_and_then date_fault_in (own_text_at w d key.Day)
 
 -- a receipt has one of two keys that only go together
 abbrev pub half_of : Option (List ℕ) → Bool → Bool → Option RequestFault
@@ -132,15 +137,23 @@ half_fault w d =
 abbrev pub choice_fault_in : List ℕ → Option RequestFault
 choice_fault_in text = if is_some (yes_or_no text) then None else Some (by.NoChoice text)
 
-abbrev pub choice_fault : Data → Option RequestFault
-choice_fault d = option_and_then choice_fault_in (text_at (key_name key.DryRun) d)
+abbrev pub choice_fault : Word → Data → Option RequestFault
+choice_fault w d = option_and_then choice_fault_in (own_text_at w d key.DryRun)
+
+-- what says how many entries the branch has to have says no count
+abbrev pub count_fault_in : List ℕ → Option RequestFault
+count_fault_in text = if is_some (entry_count text) then None else Some (by.NoCount text)
+
+abbrev pub count_fault : Word → Data → Option RequestFault
+count_fault w d = option_and_then count_fault_in (own_text_at w d key.IfEntries)
 
 -- the first fault of the keys beside `do` and of their values; if it is none of the others, there are keys that the
 -- request may not have
 abbrev pub keys_fault : Word → Data → RequestFault
 keys_fault w d =
     unwrap_or (option_or (missing_fault w d) (option_or (half_fault w d) (option_or (odd_fault w d)
-    (option_or (date_fault d) (choice_fault d))))) (by.OtherKeys w (other_key w d))
+    (option_or (date_fault w d) (option_or (choice_fault w d) (count_fault w d))))))
+    (by.OtherKeys w (other_key w d))
 
 -- the first fault of an object in which `do` has that text
 abbrev pub word_fault : Data → List ℕ → Option Word → RequestFault

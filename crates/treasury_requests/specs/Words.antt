@@ -24,6 +24,7 @@ key_name key.Accounts = codes "accounts"
 key_name key.Into = codes "into"
 key_name key.Tag = codes "tag"
 key_name key.DryRun = codes "dry-run"
+key_name key.IfEntries = codes "if-entries"
 
 -- a word as it is written
 abbrev pub word_name : Word → List ℕ
@@ -75,11 +76,11 @@ needed word.Transfers = key.Day ∷ []
 abbrev pub further : Word → List Key
 further word.Branch = key.DryRun ∷ []
 further word.Commodity = key.DryRun ∷ []
-further word.Import = key.DryRun ∷ []
-further word.Dispatch = key.DryRun ∷ []
-further word.Receive = key.Part ∷ key.Amount ∷ key.DryRun ∷ []
-further word.Lock = key.DryRun ∷ []
-further word.Close = key.Accounts ∷ key.Into ∷ key.DryRun ∷ []
+further word.Import = key.DryRun ∷ key.IfEntries ∷ []
+further word.Dispatch = key.DryRun ∷ key.IfEntries ∷ []
+further word.Receive = key.Part ∷ key.Amount ∷ key.DryRun ∷ key.IfEntries ∷ []
+further word.Lock = key.DryRun ∷ key.IfEntries ∷ []
+further word.Close = key.Accounts ∷ key.Into ∷ key.DryRun ∷ key.IfEntries ∷ []
 further word.Balance = []
 further word.Register = key.Tag ∷ []
 further word.Transit = []

@@ -12,10 +12,11 @@ ghost use Rattle.treasury_requests.specs.RequestFault.{kind_of_data, odd_kind_at
 ghost use Rattle.treasury_requests.specs.RequestFault.{may_have, is_key_named, is_other_string};
 ghost use Rattle.treasury_requests.specs.RequestFault.{is_other_key, names_in, other_key, missing_fault};
 ghost use Rattle.treasury_requests.specs.RequestFault.{odd_fault_in, odd_fault, date_fault, half_fault, choice_fault};
+ghost use Rattle.treasury_requests.specs.RequestFault.{own_text_at, count_fault};
 ghost use Rattle.treasury_requests.specs.RequestFault.{keys_fault, word_fault, value_fault, IsFirstRequestFault};
 
 use crate::request::{form_of, owned_text, text_at, yes_or_no};
-use journal_lines::read_date;
+use journal_lines::{read_count, read_date};
 use money_core::{Cause, Text};
 use serde_json::{Map, Value};
 use std::alloc::Global;
@@ -84,6 +85,10 @@ pub enum RequestFault {
     },
     /// The value of `dry-run` is neither `yes` nor `no`.
     NoChoice {
+        text: Text,
+    },
+    /// The value of `if-entries` is not 1 to 5 digits.
+    NoCount {
         text: Text,
     },
     /// There are keys that the request of the word may not have. The first such, if there is one.
@@ -234,12 +239,23 @@ fn odd_fault(value: &Value, word: Word) -> Option<RequestFault>
     }
 }
 
+/// The text at a key that the request of a word may have.
+fn own_text_at<'a>(value: &'a Value, word: Word, key: Key) -> Option<&'a str>
+    ensures { option_map (λ s. s.now) result ≡ own_text_at word (view value.now) key }
+{
+    if may_have(word, key.name()) {
+        text_at(value, key.name())
+    } else {
+        None
+    }
+}
+
 /// Its day is no date.
-fn date_fault(alloc: Global, value: &Value) -> Result<Option<RequestFault>, Cause>
-    ensures value { IfOk result (λ fault. fault ≡ date_fault (view value.now)) }
+fn date_fault(alloc: Global, value: &Value, word: Word) -> Result<Option<RequestFault>, Cause>
+    ensures value { IfOk result (λ fault. fault ≡ date_fault word (view value.now)) }
     ensures memory { IsOkUnless result Cause.OutOfMemory }
 {
-    let Some(text) = text_at(value, Key::Day.name()) else {
+    let Some(text) = own_text_at(value, word, Key::Day) else {
         return Ok(None);
     };
     match read_date(text.as_bytes()) {
@@ -273,11 +289,11 @@ fn half_fault(alloc: Global, value: &Value, word: Word) -> Result<Option<Request
 }
 
 /// What says whether it is a dry run says neither.
-fn choice_fault(alloc: Global, value: &Value) -> Result<Option<RequestFault>, Cause>
-    ensures value { IfOk result (λ fault. fault ≡ choice_fault (view value.now)) }
+fn choice_fault(alloc: Global, value: &Value, word: Word) -> Result<Option<RequestFault>, Cause>
+    ensures value { IfOk result (λ fault. fault ≡ choice_fault word (view value.now)) }
     ensures memory { IsOkUnless result Cause.OutOfMemory }
 {
-    let Some(text) = text_at(value, Key::DryRun.name()) else {
+    let Some(text) = own_text_at(value, word, Key::DryRun) else {
         return Ok(None);
     };
     match yes_or_no(text) {
@@ -285,6 +301,23 @@ fn choice_fault(alloc: Global, value: &Value) -> Result<Option<RequestFault>, Ca
         None => {
             let text = Text::of(alloc, text)?;
             Ok(Some(RequestFault::NoChoice { text }))
+        }
+    }
+}
+
+/// What says how many entries the branch has to have says no count.
+fn count_fault(alloc: Global, value: &Value, word: Word) -> Result<Option<RequestFault>, Cause>
+    ensures value { IfOk result (λ fault. fault ≡ count_fault word (view value.now)) }
+    ensures memory { IsOkUnless result Cause.OutOfMemory }
+{
+    let Some(text) = own_text_at(value, word, Key::IfEntries) else {
+        return Ok(None);
+    };
+    match read_count(text.as_bytes()) {
+        Some(_) => Ok(None),
+        None => {
+            let text = Text::of(alloc, text)?;
+            Ok(Some(RequestFault::NoCount { text }))
         }
     }
 }
@@ -304,10 +337,13 @@ fn keys_fault(alloc: Global, value: &Value, word: Word) -> Result<RequestFault, 
     if let Some(fault) = odd_fault(value, word) {
         return Ok(fault);
     }
-    if let Some(fault) = date_fault(alloc, value)? {
+    if let Some(fault) = date_fault(alloc, value, word)? {
         return Ok(fault);
     }
-    if let Some(fault) = choice_fault(alloc, value)? {
+    if let Some(fault) = choice_fault(alloc, value, word)? {
+        return Ok(fault);
+    }
+    if let Some(fault) = count_fault(alloc, value, word)? {
         return Ok(fault);
     }
     let other = owned_text(alloc, other_key(value, word))?;

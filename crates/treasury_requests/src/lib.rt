@@ -8,5 +8,5 @@ mod request;
 pub use bytes::Bytes;
 pub use fault::{Key, Kind, RequestFault, Word, all_words, fault_of, word_of};
 pub use request::{
-    Form, PartForm, Request, Spelled, WrittenPart, read_command, read_line, request_of,
+    Form, PartForm, Request, Spelled, Terms, WrittenPart, read_command, read_line, request_of,
 };

@@ -3,8 +3,8 @@
 mod form;
 mod reading;
 
-ghost use Rattle.std.specs.Prelude.{◌≡◌};
-ghost use Rattle.treasury_requests.specs.Request.{is_report};
+ghost use Rattle.std.specs.Prelude.{◌≡◌, option_map};
+ghost use Rattle.treasury_requests.specs.Request.{is_report, branch_asked};
 
 use crate::bytes::Bytes;
 pub use form::{Form, PartForm};
@@ -100,15 +100,37 @@ pub enum Request {
     },
 }
 
-/// What a line spells: a request, and whether it is a dry run. A dry run of a command asks what the command would be
-/// answered, and changes nothing; a report is the same either way.
+/// On what terms a command is given. A report has none of its own.
+#[derive(Clone, Copy, Debug, Drop)]
+pub struct Terms {
+    /// A dry run asks what the command would be answered, and changes nothing.
+    pub is_dry_run: bool,
+    /// How many entries its branch has to have, or the command is refused where it would change something.
+    pub if_entries: Option<u32>,
+}
+
+/// What a line spells: a request, and on what terms.
 #[derive(Debug, Drop)]
 pub struct Spelled {
     pub request: Request,
-    pub is_dry_run: bool,
+    pub terms: Terms,
 }
 
 impl Request {
+    /// The name of the branch on whose book it is a command: that which takes entries, or is locked.
+    pub fn branch(&self) -> Option<&Text>
+        ensures { option_map (λ name. name.now) result ≡ branch_asked self.now }
+    {
+        match self {
+            Request::Import { branch, .. } => Some(branch),
+            Request::Dispatch { from, .. } => Some(from),
+            Request::Receive { branch, .. } => Some(branch),
+            Request::Lock { branch, .. } => Some(branch),
+            Request::Close { branch, .. } => Some(branch),
+            _ => None,
+        }
+    }
+
     /// Whether a report is asked for, not a command.
     pub fn is_report(&self) -> bool
         ensures { result ≡ is_report self.now }

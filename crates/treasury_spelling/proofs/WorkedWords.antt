@@ -8,7 +8,7 @@ use Rattle.clap.proofs.OnLiterals.{clap_on_literals}
 use Rattle.clap.specs.Walk.{first_of}
 use Rattle.treasury_requests.specs.declared.request.Request.TheVariants.{Branch, Journal, Branches}
 use Rattle.treasury_spelling.specs.Words.{objections, named}
-use Rattle.treasury_spelling.specs.Spelling.{request_in, is_dry_run, is_explained, number_spelled}
+use Rattle.treasury_spelling.specs.Spelling.{request_in, terms_in, is_explained, number_spelled}
 
 pub run_is_asked_for : (name : List ℕ) → objections (name ∷ codes "run" ∷ []) ≡ []
 unfolding clap_on_literals objections named
@@ -150,13 +150,14 @@ branches_are_asked_for name = refl
 -- a dry run is asked for by the flag alone, wherever it stands, and once
 
 pub dry_run_is_asked_for : (name : List ℕ)
-    → option_map (λ p. is_dry_run p.1)
+    → option_map (λ p. (terms_in p.1).is_dry_run)
     (named (name ∷ codes "branch" ∷ codes "--dry-run" ∷ codes "--db=t.db" ∷ codes "north" ∷ [])) ≡ Some true
 unfolding clap_on_literals named
 dry_run_is_asked_for name = refl
 
 pub dry_run_is_not_asked_for : (name : List ℕ)
-    → option_map (λ p. is_dry_run p.1) (named (name ∷ codes "branch" ∷ codes "--db=t.db" ∷ codes "north" ∷ []))
+    → option_map (λ p. (terms_in p.1).is_dry_run)
+    (named (name ∷ codes "branch" ∷ codes "--db=t.db" ∷ codes "north" ∷ []))
     ≡ Some false
 unfolding clap_on_literals named
 dry_run_is_not_asked_for name = refl

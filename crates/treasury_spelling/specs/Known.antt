@@ -13,7 +13,10 @@ optional name = record (new_rule name) { long = Some name; value_names = 1 }
 abbrev pub option : List ℕ → Rule
 option name = record (optional name) { required = true }
 
--- an option that has to be given, with a whole number up to the most
+-- an option with a whole number up to the most, and one that has to be given
+abbrev pub optional_number : List ℕ → ℕ → Rule
+optional_number name most = record (optional name) { parser = Some (Signed (pos 0) (pos most)) }
+
 abbrev pub number : List ℕ → ℕ → Rule
 number name most = record (option name) { parser = Some (Signed (pos 0) (pos most)) }
 
@@ -49,9 +52,12 @@ account = option (codes "account")
 abbrev pub id : Rule
 id = option (codes "id")
 
--- `--dry-run`
+-- `--dry-run`, `--if-entries N`
 abbrev pub dry_run : Rule
 dry_run = flag (codes "dry-run")
+
+abbrev pub if_entries : Rule
+if_entries = optional (codes "if-entries")
 
 -- the word that is over no file, with `--explain`
 abbrev pub run_shape : Shape
@@ -70,7 +76,7 @@ begins =
 -- those of every month
 abbrev pub months : List Shape
 months =
-    placed_shape (codes "import") (branch ∷ operand (codes "journal") ∷ dry_run ∷ [])
+    placed_shape (codes "import") (branch ∷ operand (codes "journal") ∷ dry_run ∷ if_entries ∷ [])
     ∷ placed_shape (codes "accounts") (branch ∷ [])
     ∷ placed_shape (codes "balance") (branch ∷ day ∷ [])
     ∷ placed_shape (codes "register") (branch ∷ account ∷ optional (codes "tag") ∷ [])
@@ -80,9 +86,9 @@ months =
 abbrev pub transfers : List Shape
 transfers =
     placed_shape (codes "dispatch") (id ∷ option (codes "from") ∷ option (codes "to") ∷ day ∷ option (codes "amount")
-    ∷ account ∷ dry_run ∷ [])
+    ∷ account ∷ dry_run ∷ if_entries ∷ [])
     ∷ placed_shape (codes "receive") (id ∷ branch ∷ day ∷ account ∷ optional (codes "part") ∷ optional (codes "amount")
-    ∷ dry_run ∷ [])
+    ∷ dry_run ∷ if_entries ∷ [])
     ∷ placed_shape (codes "transfers") (day ∷ [])
     ∷ placed_shape (codes "transit") (day ∷ [])
     ∷ []
@@ -90,10 +96,11 @@ transfers =
 -- those of a month's or a year's end, the one that stays, and the one that is over no file
 abbrev pub ends : List Shape
 ends =
-    placed_shape (codes "lock") (branch ∷ day ∷ dry_run ∷ [])
-    ∷ placed_shape (codes "close") (branch ∷ day ∷ optional (codes "accounts") ∷ optional (codes "into") ∷ dry_run ∷ [])
+    placed_shape (codes "lock") (branch ∷ day ∷ dry_run ∷ if_entries ∷ [])
+    ∷ placed_shape (codes "close") (branch ∷ day ∷ optional (codes "accounts") ∷ optional (codes "into") ∷ dry_run
+    ∷ if_entries ∷ [])
     ∷ placed_shape (codes "journal") (branch ∷ [])
-    ∷ word (codes "serve") (number (codes "port") 65535 ∷ number (codes "requests") 4294967295 ∷ [])
+    ∷ word (codes "serve") (number (codes "port") 65535 ∷ optional_number (codes "requests") 4294967295 ∷ [])
     ∷ run_shape
     ∷ []
 

@@ -1,15 +1,17 @@
 -- The request that a word over a database file spells (own rule; docs/RULES.md, "The program"): the one that a line of
 -- `run` spells whose keys have the word's values.
 use Rattle.std.specs.Prelude.{◌≡◌, ◌<◌, ◌^◌, ◌⊎◌, ℕ, Bool, false, List, codes, Option, Some, None, option_map}
-use Rattle.std.specs.Prelude.{option_and_then}
+use Rattle.std.specs.Prelude.{option_and_then, is_some, not}
 use Rattle.std.specs.Str.Parse.{IsNumeral, without_leading_plus, digits_value}
 use Rattle.std.specs.Prelude.{if◌then◌else◌}
 use Rattle.std.specs.Str.{bytes_eq}
 use Rattle.clap.specs.Walk.{Row, first_of}
 use Rattle.money_core.specs.declared.day.Day.{Day}
 use Rattle.journal_lines.specs.DateReading.{date_of}
+use Rattle.journal_lines.specs.Number.{entry_count}
 use Rattle.treasury_requests.specs.declared.request.WrittenPart.{WrittenPart}
 use Rattle.treasury_requests.specs.declared.request.Spelled.{Spelled}
+use Rattle.treasury_requests.specs.declared.request.Terms.{Terms}
 use Rattle.treasury_requests.specs.declared.request.Request.{Request}
 use Rattle.treasury_requests.specs.declared.request.Request.TheVariants.{Branch, Commodity, Dispatch, Receive}
 use Rattle.treasury_requests.specs.declared.request.Request.TheVariants.{Lock, Close}
@@ -68,9 +70,18 @@ report_spelled word rows =
     else if bytes_eq word (codes "journal") then option_map Journal (first_of (codes "branch") rows)
     else list_in word rows
 
--- what any word spells but `init`, which spells none, and `import`, whose journal stands in a file
-abbrev pub request_in : List ℕ → List Row → Option Request
-request_in word rows =
+-- a text is given, and is no count
+abbrev pub is_no_count : Option (List ℕ) → Bool
+is_no_count None = false
+is_no_count (Some text) = not (is_some (entry_count text))
+
+-- what says how many entries the branch has to have is given, and says no count
+abbrev pub says_no_count : List Row → Bool
+says_no_count rows = is_no_count (first_of (codes "if-entries") rows)
+
+-- what any word spells by its other values
+abbrev pub request_by : List ℕ → List Row → Option Request
+request_by word rows =
     if bytes_eq word (codes "branch") then option_map Branch (first_of (codes "name") rows)
     else if bytes_eq word (codes "commodity") then option_map Commodity (first_of (codes "sample") rows)
     else if bytes_eq word (codes "dispatch") then dispatch_in rows
@@ -82,6 +93,10 @@ request_in word rows =
     option_map (λ day. Close branch day (first_of (codes "accounts") rows) (first_of (codes "into") rows))
     (day_in rows)) (first_of (codes "branch") rows)
     else report_spelled word rows
+
+-- what any word spells but `init`, which spells none, and `import`, whose journal stands in a file
+abbrev pub request_in : List ℕ → List Row → Option Request
+request_in word rows = if says_no_count rows then None else request_by word rows
 
 -- the number that decimal digits write, where a plus may stand first
 abbrev pub number_spelled : List ℕ → ℕ
@@ -107,14 +122,17 @@ abbrev pub is_set : Option (List ℕ) → Bool
 is_set None = false
 is_set (Some text) = bytes_eq text (codes "true")
 
--- `--dry-run` is given
-abbrev pub is_dry_run : List Row → Bool
-is_dry_run rows = is_set (first_of (codes "dry-run") rows)
-
 -- `--explain` is given
 abbrev pub is_explained : List Row → Bool
 is_explained rows = is_set (first_of (codes "explain") rows)
 
--- the request of a word, as a dry run or in earnest
-abbrev pub given : Bool → Request → Spelled
-given dry request = record { request = request; is_dry_run = dry }
+-- the terms that are given: `--dry-run`, and the count of `--if-entries`
+abbrev pub terms_in : List Row → Terms
+terms_in rows = record {
+  is_dry_run = is_set (first_of (codes "dry-run") rows);
+  if_entries = option_and_then entry_count (first_of (codes "if-entries") rows);
+}
+
+-- the request of a word, on these terms
+abbrev pub given : Terms → Request → Spelled
+given terms request = record { request = request; terms = terms }

@@ -8,7 +8,7 @@ ghost use Rattle.treasury_spelling.specs.Known.{known, word, placed_shape, at, o
 ghost use Rattle.treasury_spelling.specs.Known.{branch};
 ghost use Rattle.treasury_spelling.specs.Known.{day, account};
 ghost use Rattle.treasury_spelling.specs.Known.{id, flag, run_shape};
-ghost use Rattle.treasury_spelling.specs.Known.{dry_run, begins, months, transfers, ends};
+ghost use Rattle.treasury_spelling.specs.Known.{dry_run, if_entries, optional_number, begins, months, transfers, ends};
 ghost use Rattle.treasury_spelling.specs.Knowing.{IsWord, IsPlaced, HasMore};
 
 use clap::builder::ValueParser;
@@ -16,7 +16,7 @@ use clap::{Arg, ArgAction, Command, value_parser};
 use std::alloc::{AllocError, Global};
 
 /// The version that `--version` shows.
-const VERSION: &str = "0.10.0";
+const VERSION: &str = "0.11.0";
 
 /// What the program is for.
 const ABOUT: &str = "Keeps the books of a federation of branches in a database file.";
@@ -139,16 +139,19 @@ const EXAMPLE_JOURNAL: &str =
 const ABOUT_SERVE: &str = "Answers requests over HTTP on 127.0.0.1, one connection after another";
 
 const EXAMPLE_SERVE: &str = r#"Example:
-  treasury serve --db books.db --port 8080 --requests 4294967295
+  treasury serve --db books.db --port 8080
 
 Standard output says `listening` once connections can be made, and standard error the address: with PORT 0 the system
 chooses one. After N connections it ends. FILE is in use until then. Routes:
   POST /commands             its body is a request, one JSON object, as a line of `run`
+  POST /commands/BRANCH      the same, but only a command of the branch
   GET /accounts/BRANCH       the accounts of the branch's entries
   GET /balance/BRANCH/DAY    the branch's balances through the day
   GET /branches              the branches, with their locks and how many entries they have
   GET /commodities           the commodities, by their samples
   GET /journal/BRANCH        the branch's journal
+  GET /register/BRANCH?account=ACCOUNT&tag=TAG
+                             the postings of the account and its subaccounts, with running sums; `&tag=TAG` may be left out
   GET /transfers/DAY         the transfers of which something is open through the day
   GET /transit/DAY           what is on its way between branches through the day"#;
 
@@ -169,6 +172,8 @@ const EXAMPLE_RUN: &str = r#"Each line is a request, one JSON object. Requests:
                                                  with "accounts":"ACCOUNT;ACCOUNT" these and their subaccounts instead,
                                                  with "into":ACCOUNT into that account
 With "dry-run":"yes" such a request is answered as it would be now, and nothing is entered; "no" is as without it.
+With "if-entries":N an import, dispatch, receive, lock or close that would change something is refused with 48 if its
+branch has another number of entries; a dry run over HTTP tells how many it has.
 
 Reports:
   {"do":"branches"}                              the branches, with their locks and how many entries they have
@@ -213,7 +218,8 @@ const AT_HELP: &str = "The port of the service that has the file, in place of --
 
 const PORT_HELP: &str = "The port, 0 to 65535; 0 has the system choose one";
 
-const REQUESTS_HELP: &str = "How many connections to answer, at most 4294967295";
+const REQUESTS_HELP: &str =
+    "How many connections to answer, at most 4294967295, which is the default";
 
 const ID_HELP: &str =
     "The transfer: 1 to 64 letters, digits or -._ (one that begins with - as --id=-t7)";
@@ -224,6 +230,9 @@ const PART_HELP: &str =
 const PART_AMOUNT_HELP: &str = "The amount of the part";
 
 const DRY_RUN_HELP: &str = "Answers what the command would be answered; nothing is entered";
+
+const IF_ENTRIES_HELP: &str =
+    "Refused with 48 if the branch has another number of entries and the command would change something";
 
 const EXPLAIN_HELP: &str =
     "Explains refusals, and notes what may be a slip, on standard error below the line's number";
@@ -299,6 +308,14 @@ fn dry_run_flag<'a>(alloc: Global) -> Arg<'a>
     ensures local { result.global ≡ false }
 {
     flag(alloc, "dry-run", DRY_RUN_HELP)
+}
+
+/// The option of how many entries the branch has to have.
+fn if_entries_option<'a>(alloc: Global) -> Arg<'a>
+    ensures rule { rule_of result ≡ if_entries }
+    ensures local { result.global ≡ false }
+{
+    optional(alloc, "if-entries", "N", IF_ENTRIES_HELP)
 }
 
 /// A word over a database file alone.
@@ -381,12 +398,13 @@ fn commodities<'a>(alloc: Global) -> Result<Command<'a>, AllocError>
 
 /// The word `import`.
 fn import<'a>(alloc: Global) -> Result<Command<'a>, AllocError>
-    ensures { IfOk result (IsPlaced (codes "import") (branch ∷ operand (codes "journal") ∷ dry_run ∷ [])) }
+    ensures { IfOk result (IsPlaced (codes "import") (branch ∷ operand (codes "journal") ∷ dry_run ∷ if_entries ∷ [])) }
 {
     placed(alloc, "import", ABOUT_IMPORT, EXAMPLE_IMPORT)?
         .arg(branch_option(alloc))?
         .arg(operand(alloc, "journal", "JOURNAL", JOURNAL_HELP))?
-        .arg(dry_run_flag(alloc))
+        .arg(dry_run_flag(alloc))?
+        .arg(if_entries_option(alloc))
 }
 
 /// The word `accounts`.
@@ -425,16 +443,26 @@ fn sending<'a>(alloc: Global) -> Result<Command<'a>, AllocError>
         .arg(option(alloc, "to", "NAME", "The branch that is paid"))
 }
 
-/// The word `dispatch`.
-fn dispatch<'a>(alloc: Global) -> Result<Command<'a>, AllocError>
+/// The word `dispatch`, with what is sent from where to where when.
+fn sent<'a>(alloc: Global) -> Result<Command<'a>, AllocError>
     ensures { IfOk result (IsPlaced (codes "dispatch")
-        (id ∷ option (codes "from") ∷ option (codes "to") ∷ day ∷ option (codes "amount") ∷ account ∷ dry_run ∷ [])) }
+        (id ∷ option (codes "from") ∷ option (codes "to") ∷ day ∷ option (codes "amount") ∷ [])) }
 {
     sending(alloc)?
         .arg(day_option(alloc))?
-        .arg(option(alloc, "amount", "AMOUNT", "The amount that is sent"))?
+        .arg(option(alloc, "amount", "AMOUNT", "The amount that is sent"))
+}
+
+/// The word `dispatch`.
+fn dispatch<'a>(alloc: Global) -> Result<Command<'a>, AllocError>
+    ensures { IfOk result (IsPlaced (codes "dispatch")
+        (id ∷ option (codes "from") ∷ option (codes "to") ∷ day ∷ option (codes "amount") ∷ account ∷ dry_run
+        ∷ if_entries ∷ [])) }
+{
+    sent(alloc)?
         .arg(account_option(alloc, "The account that pays"))?
-        .arg(dry_run_flag(alloc))
+        .arg(dry_run_flag(alloc))?
+        .arg(if_entries_option(alloc))
 }
 
 /// The word `receive`, with what comes where.
@@ -447,16 +475,26 @@ fn coming<'a>(alloc: Global) -> Result<Command<'a>, AllocError>
         .arg(day_option(alloc))
 }
 
-/// The word `receive`.
-fn receive<'a>(alloc: Global) -> Result<Command<'a>, AllocError>
+/// The word `receive`, with what comes where, and of which part.
+fn parted<'a>(alloc: Global) -> Result<Command<'a>, AllocError>
     ensures { IfOk result (IsPlaced (codes "receive")
-        (id ∷ branch ∷ day ∷ account ∷ optional (codes "part") ∷ optional (codes "amount") ∷ dry_run ∷ [])) }
+        (id ∷ branch ∷ day ∷ account ∷ optional (codes "part") ∷ optional (codes "amount") ∷ [])) }
 {
     coming(alloc)?
         .arg(account_option(alloc, "The account that is paid"))?
         .arg(optional(alloc, "part", "KEY", PART_HELP))?
-        .arg(optional(alloc, "amount", "AMOUNT", PART_AMOUNT_HELP))?
-        .arg(dry_run_flag(alloc))
+        .arg(optional(alloc, "amount", "AMOUNT", PART_AMOUNT_HELP))
+}
+
+/// The word `receive`.
+fn receive<'a>(alloc: Global) -> Result<Command<'a>, AllocError>
+    ensures { IfOk result (IsPlaced (codes "receive")
+        (id ∷ branch ∷ day ∷ account ∷ optional (codes "part") ∷ optional (codes "amount") ∷ dry_run
+        ∷ if_entries ∷ [])) }
+{
+    parted(alloc)?
+        .arg(dry_run_flag(alloc))?
+        .arg(if_entries_option(alloc))
 }
 
 /// The word `transfers`.
@@ -475,12 +513,13 @@ fn transit<'a>(alloc: Global) -> Result<Command<'a>, AllocError>
 
 /// The word `lock`.
 fn lock<'a>(alloc: Global) -> Result<Command<'a>, AllocError>
-    ensures { IfOk result (IsPlaced (codes "lock") (branch ∷ day ∷ dry_run ∷ [])) }
+    ensures { IfOk result (IsPlaced (codes "lock") (branch ∷ day ∷ dry_run ∷ if_entries ∷ [])) }
 {
     placed(alloc, "lock", ABOUT_LOCK, EXAMPLE_LOCK)?
         .arg(branch_option(alloc))?
         .arg(day_option(alloc))?
-        .arg(dry_run_flag(alloc))
+        .arg(dry_run_flag(alloc))?
+        .arg(if_entries_option(alloc))
 }
 
 /// The word `close`, with what is closed when.
@@ -495,12 +534,13 @@ fn closing<'a>(alloc: Global) -> Result<Command<'a>, AllocError>
 /// The word `close`.
 fn close<'a>(alloc: Global) -> Result<Command<'a>, AllocError>
     ensures { IfOk result (IsPlaced (codes "close")
-        (branch ∷ day ∷ optional (codes "accounts") ∷ optional (codes "into") ∷ dry_run ∷ [])) }
+        (branch ∷ day ∷ optional (codes "accounts") ∷ optional (codes "into") ∷ dry_run ∷ if_entries ∷ [])) }
 {
     closing(alloc)?
         .arg(optional(alloc, "accounts", "LIST", ACCOUNTS_HELP))?
         .arg(optional(alloc, "into", "ACCOUNT", INTO_HELP))?
-        .arg(dry_run_flag(alloc))
+        .arg(dry_run_flag(alloc))?
+        .arg(if_entries_option(alloc))
 }
 
 /// The word `journal`.
@@ -533,7 +573,8 @@ fn with_begins<'a>(alloc: Global, command: Command<'a>) -> Result<Command<'a>, A
 
 /// With the words for what comes into a book, and for its accounts.
 fn with_imports<'a>(alloc: Global, command: Command<'a>) -> Result<Command<'a>, AllocError>
-    ensures { IfOk result (HasMore (placed_shape (codes "import") (branch ∷ operand (codes "journal") ∷ dry_run ∷ [])
+    ensures { IfOk result (HasMore (placed_shape (codes "import")
+        (branch ∷ operand (codes "journal") ∷ dry_run ∷ if_entries ∷ [])
         ∷ placed_shape (codes "accounts") (branch ∷ []) ∷ []) command.entry) }
 {
     command
@@ -553,7 +594,8 @@ fn with_months<'a>(alloc: Global, command: Command<'a>) -> Result<Command<'a>, A
 /// With the word by which money goes.
 fn with_dispatches<'a>(alloc: Global, command: Command<'a>) -> Result<Command<'a>, AllocError>
     ensures { IfOk result (HasMore (placed_shape (codes "dispatch")
-        (id ∷ option (codes "from") ∷ option (codes "to") ∷ day ∷ option (codes "amount") ∷ account ∷ dry_run ∷ [])
+        (id ∷ option (codes "from") ∷ option (codes "to") ∷ day ∷ option (codes "amount") ∷ account ∷ dry_run
+        ∷ if_entries ∷ [])
         ∷ []) command.entry) }
 {
     command.subcommand(dispatch(alloc)?)
@@ -562,9 +604,10 @@ fn with_dispatches<'a>(alloc: Global, command: Command<'a>) -> Result<Command<'a
 /// With the words by which money goes and comes.
 fn with_moves<'a>(alloc: Global, command: Command<'a>) -> Result<Command<'a>, AllocError>
     ensures { IfOk result (HasMore (placed_shape (codes "dispatch")
-        (id ∷ option (codes "from") ∷ option (codes "to") ∷ day ∷ option (codes "amount") ∷ account ∷ dry_run ∷ [])
+        (id ∷ option (codes "from") ∷ option (codes "to") ∷ day ∷ option (codes "amount") ∷ account ∷ dry_run
+        ∷ if_entries ∷ [])
         ∷ placed_shape (codes "receive")
-        (id ∷ branch ∷ day ∷ account ∷ optional (codes "part") ∷ optional (codes "amount") ∷ dry_run ∷ [])
+        (id ∷ branch ∷ day ∷ account ∷ optional (codes "part") ∷ optional (codes "amount") ∷ dry_run ∷ if_entries ∷ [])
         ∷ []) command.entry) }
 {
     with_dispatches(alloc, command)?.subcommand(receive(alloc)?)
@@ -589,16 +632,16 @@ fn port_option<'a>(alloc: Global) -> Arg<'a>
 
 /// The number of connections that a word serves.
 fn requests_option<'a>(alloc: Global) -> Arg<'a>
-    ensures rule { rule_of result ≡ number (codes "requests") 4294967295 }
+    ensures rule { rule_of result ≡ optional_number (codes "requests") 4294967295 }
     ensures local { result.global ≡ false }
 {
-    option(alloc, "requests", "N", REQUESTS_HELP).value_parser(value_parser!(u32))
+    optional(alloc, "requests", "N", REQUESTS_HELP).value_parser(value_parser!(u32))
 }
 
 /// The word `serve`.
 fn serve<'a>(alloc: Global) -> Result<Command<'a>, AllocError>
     ensures { IfOk result (IsWord (codes "serve")
-        (number (codes "port") 65535 ∷ number (codes "requests") 4294967295 ∷ [])) }
+        (number (codes "port") 65535 ∷ optional_number (codes "requests") 4294967295 ∷ [])) }
 {
     word(alloc, "serve", ABOUT_SERVE, EXAMPLE_SERVE)?
         .arg(port_option(alloc))?
@@ -618,9 +661,9 @@ fn run<'a>(alloc: Global) -> Result<Command<'a>, AllocError>
 
 /// With the words that lock a branch.
 fn with_locks<'a>(alloc: Global, command: Command<'a>) -> Result<Command<'a>, AllocError>
-    ensures { IfOk result (HasMore (placed_shape (codes "lock") (branch ∷ day ∷ dry_run ∷ [])
+    ensures { IfOk result (HasMore (placed_shape (codes "lock") (branch ∷ day ∷ dry_run ∷ if_entries ∷ [])
         ∷ placed_shape (codes "close")
-        (branch ∷ day ∷ optional (codes "accounts") ∷ optional (codes "into") ∷ dry_run ∷ [])
+        (branch ∷ day ∷ optional (codes "accounts") ∷ optional (codes "into") ∷ dry_run ∷ if_entries ∷ [])
         ∷ []) command.entry) }
 {
     command.subcommand(lock(alloc)?)?.subcommand(close(alloc)?)
@@ -628,9 +671,9 @@ fn with_locks<'a>(alloc: Global, command: Command<'a>) -> Result<Command<'a>, Al
 
 /// With the words of a month's or a year's end.
 fn with_closings<'a>(alloc: Global, command: Command<'a>) -> Result<Command<'a>, AllocError>
-    ensures { IfOk result (HasMore (placed_shape (codes "lock") (branch ∷ day ∷ dry_run ∷ [])
+    ensures { IfOk result (HasMore (placed_shape (codes "lock") (branch ∷ day ∷ dry_run ∷ if_entries ∷ [])
         ∷ placed_shape (codes "close")
-        (branch ∷ day ∷ optional (codes "accounts") ∷ optional (codes "into") ∷ dry_run ∷ [])
+        (branch ∷ day ∷ optional (codes "accounts") ∷ optional (codes "into") ∷ dry_run ∷ if_entries ∷ [])
         ∷ placed_shape (codes "journal") (branch ∷ []) ∷ []) command.entry) }
 {
     with_locks(alloc, command)?.subcommand(journal(alloc)?)

@@ -7,4 +7,6 @@ mod spelling;
 
 pub use known::known_words;
 pub use reading::read_words;
-pub use spelling::{fault_of, form_of_word, is_dry_run, is_explained, port_of, value_of};
+pub use spelling::{
+    fault_of, form_of_word, is_explained, port_of, says_no_count, terms_of, value_of,
+};

@@ -1,19 +1,20 @@
 //! What a word over a file asks for, by its values.
 
-ghost use Rattle.std.specs.Prelude.{◌≡◌, codes, None, option_map, option_copied, IfSome};
+ghost use Rattle.std.specs.Prelude.{◌≡◌, codes, None, option_map, option_and_then, option_copied, IfSome};
 ghost use Rattle.clap.specs.Matches.{found_of};
 ghost use Rattle.clap.specs.Walk.{first_of, rows_of};
 ghost use Rattle.journal_lines.specs.Date.{IsDayNumber};
 ghost use Rattle.treasury_requests.specs.Form.{form_view, part_view};
 ghost use Rattle.treasury_requests.specs.Request.{HasDayNumbers};
 ghost use Rattle.treasury_spelling.specs.Spelling.{day_in, dispatch_in, part_in, receive_in, list_in, report_spelled};
-ghost use Rattle.treasury_spelling.specs.Spelling.{request_in};
-ghost use Rattle.treasury_spelling.specs.Spelling.{is_set, is_dry_run, is_explained, HasPort, LacksPort};
+ghost use Rattle.treasury_spelling.specs.Spelling.{request_in, request_by, terms_in, says_no_count};
+ghost use Rattle.treasury_spelling.specs.Spelling.{is_set, is_explained, HasPort, LacksPort};
+ghost use Rattle.journal_lines.specs.Number.{entry_count};
 
 use clap::ArgMatches;
-use journal_lines::read_date;
+use journal_lines::{read_count, read_date};
 use money_core::Day;
-use treasury_requests::{Form, PartForm};
+use treasury_requests::{Form, PartForm, Terms};
 
 /// The value of that name.
 pub fn value_of<'a>(values: &ArgMatches<'a>, name: &str) -> Option<&'a str>
@@ -47,11 +48,32 @@ fn is_set(values: &ArgMatches<'_>, name: &str) -> bool
     }
 }
 
-/// Whether a dry run is asked for.
-pub fn is_dry_run(values: &ArgMatches<'_>) -> bool
-    ensures { result ≡ is_dry_run (rows_of (found_of values.now)) }
+/// The terms that are given; a text that is no count says nothing.
+pub fn terms_of(values: &ArgMatches<'_>) -> Terms
+    ensures { result ≡ terms_in (rows_of (found_of values.now)) }
 {
-    is_set(values, "dry-run")
+    Terms {
+        is_dry_run: is_set(values, "dry-run"),
+        if_entries: count_of(values),
+    }
+}
+
+/// How many entries the branch has to have, if a count is given.
+fn count_of(values: &ArgMatches<'_>) -> Option<u32>
+    ensures { result ≡ option_and_then entry_count (first_of (codes "if-entries") (rows_of (found_of values.now))) }
+{
+    let text = value_of(values, "if-entries")?;
+    read_count(text.as_bytes())
+}
+
+/// Whether a text is given for how many entries the branch has to have, and is no count.
+pub fn says_no_count(values: &ArgMatches<'_>) -> bool
+    ensures { result ≡ says_no_count (rows_of (found_of values.now)) }
+{
+    match value_of(values, "if-entries") {
+        Some(text) => read_count(text.as_bytes()).is_none(),
+        None => false,
+    }
 }
 
 /// Whether the answers of a run are to be explained.
@@ -178,18 +200,19 @@ fn report_of<'a>(word: &str, values: &ArgMatches<'a>) -> Option<Form<'a>>
 }
 
 /// Why a word asks for nothing, by its values.
-pub fn fault_of(values: &ArgMatches<'_>) -> &'static str {
-    match day_of(values) {
-        Some(_) => "a part needs its key and its amount; only one of them is given",
-        None => "the day is not a date; dates are written as 2024-12-31",
+pub fn fault_of(word: &str, values: &ArgMatches<'_>) -> &'static str {
+    if word != "import" && day_of(values).is_none() {
+        "the day is not a date; dates are written as 2024-12-31"
+    } else if word == "receive" && part_of(values).is_none() {
+        "a part needs its key and its amount; only one of them is given"
+    } else {
+        "--if-entries is a number of 1 to 5 digits"
     }
 }
 
-/// What the word of a command or a report asks for, `init` and `import` aside: the request that a line of `run` spells
-/// whose keys have these values. Nothing where a value is missing, a day is no date, or of a part only the key or the
-/// amount is given.
-pub fn form_of_word<'a>(word: &str, values: &ArgMatches<'a>) -> Option<Form<'a>>
-    ensures value { option_map form_view result ≡ request_in word.now (rows_of (found_of values.now)) }
+/// What the word of a command or a report asks for by its values other than its terms.
+fn form_by<'a>(word: &str, values: &ArgMatches<'a>) -> Option<Form<'a>>
+    ensures value { option_map form_view result ≡ request_by word.now (rows_of (found_of values.now)) }
     ensures days { IfSome result (λ form. HasDayNumbers (form_view form)) }
 {
     if word == "branch" {
@@ -219,5 +242,19 @@ pub fn form_of_word<'a>(word: &str, values: &ArgMatches<'a>) -> Option<Form<'a>>
         })
     } else {
         report_of(word, values)
+    }
+}
+
+/// What the word of a command or a report asks for, `init` and `import` aside: the request that a line of `run` spells
+/// whose keys have these values. Nothing where a value is missing, a day is no date, of a part only the key or the
+/// amount is given, or a count of entries is none.
+pub fn form_of_word<'a>(word: &str, values: &ArgMatches<'a>) -> Option<Form<'a>>
+    ensures value { option_map form_view result ≡ request_in word.now (rows_of (found_of values.now)) }
+    ensures days { IfSome result (λ form. HasDayNumbers (form_view form)) }
+{
+    if says_no_count(values) {
+        None
+    } else {
+        form_by(word, values)
     }
 }

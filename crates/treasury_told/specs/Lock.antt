@@ -4,17 +4,9 @@ use Rattle.money_core.specs.declared.day.Day.{Day}
 use Rattle.treasury_state.specs.Federation.{Federation, lock_of}
 use Rattle.treasury_requests.specs.declared.request.Request.{Request}
 use Rattle.treasury_requests.specs.declared.request.Request.TheVariants as req
+use Rattle.treasury_requests.specs.Request.{branch_asked}
 use Rattle.treasury_told.specs.Shown.{shown_text, line_text}
 use Rattle.treasury_told.specs.Pieces.{shown_day}
-
--- the branch that a request takes entries into, or locks
-abbrev pub branch_asked : Request → Option (List ℕ)
-branch_asked (req.Import branch journal) = Some branch
-branch_asked (req.Dispatch id from to day amount account) = Some from
-branch_asked (req.Receive id branch day account part) = Some branch
-branch_asked (req.Lock branch day) = Some branch
-branch_asked (req.Close branch day accounts into) = Some branch
-branch_asked _ = None
 
 -- what is said after it of a closing
 abbrev pub close_hint : Request → List ℕ

@@ -84,7 +84,7 @@ half_text there missing other = alone_text there missing ++ other_text other
 abbrev pub unknown_word_text : List ℕ → List ℕ
 unknown_word_text text = named_text (codes "unknown do") text ++ line_text (codes "known:" ++ words_text all_words)
 
--- the text is not UTF-8, the value no object, its day no date, its choice of a dry run none
+-- the text is not UTF-8, the value no object, its day no date, its choice of a dry run none, its count none
 abbrev pub utf8_text : ℕ → List ℕ
 utf8_text byte = line_text (codes "not UTF-8 from byte " ++ decimal byte ++ codes " on")
 
@@ -97,6 +97,10 @@ day_text text = named_text (codes "day") text ++ line_text (codes
 
 abbrev pub choice_text : List ℕ → List ℕ
 choice_text text = named_text (codes "dry-run") text ++ line_text (codes "dry-run is yes or no")
+
+abbrev pub count_text : List ℕ → List ℕ
+count_text text =
+    named_text (codes "if-entries") text ++ line_text (codes "if-entries is a number of 1 to 5 digits")
 
 -- what is said of each fault
 abbrev pub fault_text : RequestFault → List ℕ
@@ -112,6 +116,7 @@ fault_text (by.ValueOfKind k kind) = not_string_text (key_name k) kind
 fault_text (by.NoDate text) = day_text text
 fault_text (by.Half there missing other) = half_text there missing other
 fault_text (by.NoChoice text) = choice_text text
+fault_text (by.NoCount text) = count_text text
 
 -- the same where there may be none
 abbrev pub told_of : Option RequestFault → List ℕ

@@ -16,7 +16,7 @@ use Rattle.treasury_requests.specs.declared.request.WrittenPart.{WrittenPart}
 use Rattle.treasury_told.specs.declared.notes.BranchBefore.{BranchBefore as HeldOfBranch}
 use Rattle.treasury_told.specs.declared.notes.HeldBefore.{HeldBefore}
 use Rattle.treasury_told.specs.HeldTransfer.{id_asked, transfer_in}
-use Rattle.treasury_told.specs.Lock.{branch_asked}
+use Rattle.treasury_requests.specs.Request.{branch_asked}
 use Rattle.treasury_told.specs.OddAmount.{odd_amount, amount_note}
 use Rattle.treasury_told.specs.NamedAccount.{named_account_note, named_account_if, unknown_notes}
 use Rattle.treasury_told.specs.FarDays.{span_of, far_transfer, late_receipt, early_lock, early_closing}

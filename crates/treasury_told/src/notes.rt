@@ -31,7 +31,7 @@ ghost use Rattle.treasury_told.specs.FirstNotes.{BeginsWithNotes};
 ghost use Rattle.treasury_told.specs.ImportNotes.{is_grown, import_first, import_notes, entered_import, entered_notes};
 ghost use Rattle.treasury_told.specs.ImportNotes.{IsEnteredAhead, import_ahead};
 ghost use Rattle.treasury_told.specs.NamedAccount.{named_account_if, unknown_notes};
-ghost use Rattle.treasury_told.specs.Lock.{branch_asked};
+ghost use Rattle.treasury_requests.specs.Request.{branch_asked};
 ghost use Rattle.treasury_told.specs.Failure.{journal_asked};
 ghost use Rattle.treasury_told.specs.RequestNotes.{branch_in, amount_asked, held_by, held_before};
 ghost use Rattle.treasury_told.specs.RequestNotes.{is_locked_through, locked_words, lock_notes, closed_words};
@@ -77,26 +77,12 @@ pub struct HeldBefore {
     branch: Option<BranchBefore>,
 }
 
-/// The name of the branch to whose book a request may add.
-fn branch_asked(request: &Request) -> Option<&Text>
-    ensures { option_map (λ name. name.now) result ≡ branch_asked request.now }
-{
-    match request {
-        Request::Import { branch, .. } => Some(branch),
-        Request::Dispatch { from, .. } => Some(from),
-        Request::Receive { branch, .. } => Some(branch),
-        Request::Lock { branch, .. } => Some(branch),
-        Request::Close { branch, .. } => Some(branch),
-        _ => None,
-    }
-}
-
-/// That branch, if it is there; its ledger has the entries of its records.
+/// The branch on whose book a request is, if it is there; its ledger has the entries of its records.
 fn branch_of<'a, L: Ledger>(state: &'a State<L>, request: &Request) -> Option<&'a Branch<L>>
     ensures value { option_map (λ b. branch_of b.now) result ≡ branch_in state.now (branch_asked request.now) }
     ensures kept { IfSome result (λ b. L.book b.now.ledger ≡ entries b.now.records) }
 {
-    match branch_asked(request) {
+    match request.branch() {
         Some(name) => find_branch(state, name.as_str()),
         None => None,
     }

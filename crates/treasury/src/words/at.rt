@@ -28,8 +28,8 @@ use terminal_text::{push_line, push_shown};
 use treasury_api::{NOTHING_ENTERED, write_whole};
 use treasury_client::{Form, Heard, as_text, body_of, call_of, hear_command, hear_report};
 use treasury_files::read_journal;
-use treasury_requests::{Spelled, request_of};
-use treasury_spelling::{fault_of, form_of_word, is_dry_run, port_of, value_of};
+use treasury_requests::{Spelled, Terms, request_of};
+use treasury_spelling::{fault_of, form_of_word, port_of, says_no_count, terms_of, value_of};
 use treasury_told::ended::drop_cut_line;
 use treasury_told::explain::sentence;
 
@@ -325,7 +325,7 @@ fn ask_command(
 fn why_safe(request: &Spelled) -> &'static [u8] {
     if request.request.is_report() {
         b"asking again is safe: a report changes nothing"
-    } else if request.is_dry_run {
+    } else if request.terms.is_dry_run {
         b"asking again is safe: a dry run changes nothing"
     } else {
         b"sending the same again is safe: what was done is answered as repeated, and is not done twice"
@@ -384,11 +384,11 @@ fn answer_bytes_at(
     port: u16,
     branch: &str,
     source: &str,
-    is_dry_run: bool,
+    terms: Terms,
     journal: &[u8],
 ) -> Said
     requires { IsRoom room }
-    ensures { SaysToBytesAt branch.now is_dry_run journal.now (spoken result) }
+    ensures { SaysToBytesAt branch.now terms journal.now (spoken result) }
 {
     let alloc = rt.alloc();
     let mut shown = Vec::new(alloc);
@@ -402,10 +402,7 @@ fn answer_bytes_at(
     };
     match import_of(alloc, branch, text) {
         Ok(request) => {
-            let spelled = Spelled {
-                request,
-                is_dry_run,
-            };
+            let spelled = Spelled { request, terms };
             let said = answer_request_at(rt, room, port, &spelled, Some(shown.as_slice()));
             with_own_lines(alloc, said, journal)
         }
@@ -425,15 +422,18 @@ fn answer_import_at(rt: &HostRuntime, room: Vec<u8>, port: u16, values: &ArgMatc
     let Some(journal) = value_of(values, "journal") else {
         return lacking(alloc, room, "import");
     };
+    if says_no_count(values) {
+        let reason = fault_of("import", values);
+        return refused(alloc, room, Cause::Request, "import", reason);
+    }
     let file = match fs::open(rt, journal) {
         Ok(file) => file,
         Err(_) => return refused(alloc, room, Cause::ReadFault, journal, UNREAD),
     };
     match read_journal(alloc, file) {
         Ok(bytes) => {
-            let is_dry_run = is_dry_run(values);
             let bytes = bytes.as_slice();
-            answer_bytes_at(rt, room, port, branch, journal, is_dry_run, bytes)
+            answer_bytes_at(rt, room, port, branch, journal, terms_of(values), bytes)
         }
         Err(cause) => refused(alloc, room, cause, journal, UNREAD),
     }
@@ -452,13 +452,13 @@ fn answer_form_at(
 {
     let alloc = rt.alloc();
     let Some(form) = form_of_word(word, values) else {
-        return refused(alloc, room, Cause::Request, word, fault_of(values));
+        return refused(alloc, room, Cause::Request, word, fault_of(word, values));
     };
     match request_of(alloc, form) {
         Ok(request) => {
             let spelled = Spelled {
                 request,
-                is_dry_run: is_dry_run(values),
+                terms: terms_of(values),
             };
             answer_request_at(rt, room, port, &spelled, None)
         }

@@ -29,8 +29,8 @@ use treasury_api::{Form, answer, notes_on, reason_of, refuse, room_for_line};
 use treasury_files::{
     Left, UNCLOSED, Unopened, Unserved, close_treasury, make_tables, open_treasury, read_journal,
 };
-use treasury_requests::{Bytes, Request, Spelled, request_of};
-use treasury_spelling::{fault_of, form_of_word, is_dry_run, value_of};
+use treasury_requests::{Bytes, Request, Spelled, Terms, request_of};
+use treasury_spelling::{fault_of, form_of_word, says_no_count, terms_of, value_of};
 use treasury_store::Treasury;
 use treasury_told::explain::sentence;
 use treasury_told::notes::held_before;
@@ -248,12 +248,12 @@ fn answer_journal<R: Read + Drop, S: Start>(
     path: &str,
     branch: &str,
     source: &str,
-    is_dry_run: bool,
+    terms: Terms,
     reader: R,
     start: S,
 ) -> Answered<FileFrom<S>>
     requires { IsRoom room }
-    ensures { SaysToJournal ⟦<FileFrom<S> as Disk>⟧ (image_at S.Start) branch.now is_dry_run (R.remaining reader)
+    ensures { SaysToJournal ⟦<FileFrom<S> as Disk>⟧ (image_at S.Start) branch.now terms (R.remaining reader)
         (spoken result.said) result.left }
 {
     let alloc = rt.alloc();
@@ -266,10 +266,7 @@ fn answer_journal<R: Read + Drop, S: Start>(
     };
     match import_of(alloc, branch, bytes) {
         Ok(request) => {
-            let spelled = Spelled {
-                request,
-                is_dry_run,
-            };
+            let spelled = Spelled { request, terms };
             answer_request(rt, room, path, &spelled, source, start)
         }
         Err(cause) => before(refused(alloc, room, cause, source, sentence(cause))),
@@ -295,10 +292,14 @@ fn answer_import<S: Start>(
     let Some(journal) = value_of(values, "journal") else {
         return before(lacking(alloc, room, "import"));
     };
+    if says_no_count(values) {
+        let reason = fault_of("import", values);
+        return before(refused(alloc, room, Cause::Request, "import", reason));
+    }
     match fs::open(rt, journal) {
         Ok(file) => {
-            let is_dry_run = is_dry_run(values);
-            answer_journal(rt, room, path, branch, journal, is_dry_run, file, start)
+            let terms = terms_of(values);
+            answer_journal(rt, room, path, branch, journal, terms, file, start)
         }
         Err(_) => {
             let reason = "the journal's file cannot be read";
@@ -322,13 +323,13 @@ fn answer_form<S: Start>(
 {
     let alloc = rt.alloc();
     let Some(form) = form_of_word(word, values) else {
-        return before(refused(alloc, room, Cause::Request, word, fault_of(values)));
+        return before(refused(alloc, room, Cause::Request, word, fault_of(word, values)));
     };
     match request_of(alloc, form) {
         Ok(request) => {
             let spelled = Spelled {
                 request,
-                is_dry_run: is_dry_run(values),
+                terms: terms_of(values),
             };
             answer_request(rt, room, path, &spelled, "", start)
         }

@@ -403,7 +403,7 @@ fn log_beside<D: Disk>(rt: &HostRuntime, path: &str) -> Result<String, Unserved<
     }
 }
 
-/// The port and the number of connections, where both are given.
+/// The port that is given, and the number of connections, which is the greatest where none is given.
 fn wanted_of(values: &ArgMatches<'_>) -> Option<Wanted>
     ensures { result ≡ None → LacksValue (rows_of (found_of values.now)) }
 {
@@ -411,10 +411,7 @@ fn wanted_of(values: &ArgMatches<'_>) -> Option<Wanted>
         Some(port) => port,
         None => return None,
     };
-    let requests = match values.get_one::<u32>("requests") {
-        Some(requests) => requests,
-        None => return None,
-    };
+    let requests = values.get_one::<u32>("requests").unwrap_or(u32::MAX);
     Some(Wanted { port, requests })
 }
 

@@ -16,7 +16,7 @@ use crate::running::refuse_by;
 use crate::telling::said_beside;
 use crate::web::branch::is_command_of;
 use crate::web::object::{
-    MOST_JSON, done_in_json, refuse_in_json, refuse_plain_in_json, told_unasked,
+    MOST_JSON, done_in_json, entries_told, refuse_in_json, refuse_plain_in_json, told_unasked,
 };
 use crate::web::reply::Reply;
 use crate::web::status::{Status, status_of};
@@ -26,7 +26,7 @@ use journal_lines::read_date;
 use money_core::{Cause, Items, Styles, Text};
 use sqlite::Alter;
 use std::alloc::Global;
-use treasury_requests::{Request, Spelled, read_line};
+use treasury_requests::{Request, Spelled, Terms, read_line};
 use treasury_store::Treasury;
 use treasury_told::notes::held_before;
 
@@ -73,7 +73,10 @@ fn report(request: Request) -> Sought
 {
     Sought::Request(Spelled {
         request,
-        is_dry_run: false,
+        terms: Terms {
+            is_dry_run: false,
+            if_entries: None,
+        },
     })
 }
 
@@ -248,7 +251,7 @@ fn answer_in_json<S: Alter>(
     requires empty { room.items ≡ [] }
     requires room { MOST_JSON ≤ vec_capacity room }
     ensures form { result.form ≡ form_of_reply Form.Json (code_of result.status) }
-    ensures replies { RepliesAs S.Store treasury.old request.now (IsBodyIn Form.Json result.body.items)
+    ensures replies { RepliesAs S.Store treasury.old request.now (IsBodyIn Form.Json result.body.items request.now)
         (λ reply. code_of result.status ≡ status_of reply) treasury.new }
     ensures leaves { LeavesReplied S.Store treasury.old request.now (code_of result.status) treasury.new }
 {
@@ -263,8 +266,9 @@ fn answer_in_json<S: Alter>(
         Err(refusal) => {
             let state = treasury.state();
             let told = said_beside(alloc, state, request, held, Some(&refusal));
+            let entries = entries_told(state, request);
             let line = refuse_by(alloc, treasury, refusal, line);
-            let object = refuse_in_json(&line, told.as_slice(), room);
+            let object = refuse_in_json(&line, told.as_slice(), entries, room);
             Reply {
                 status: status_of(object.cause),
                 form: Form::Json,

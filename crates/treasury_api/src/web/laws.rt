@@ -1,6 +1,6 @@
 //! What connections come to, one after another.
 
-ghost use Rattle.std.specs.Prelude.{◌≡◌, ◌≢◌, List, ℕ, Result, Some};
+ghost use Rattle.std.specs.Prelude.{Option, ◌≡◌, ◌≢◌, List, ℕ, Result, Some};
 ghost use Rattle.std.specs.List.{AllByRecursion};
 ghost use Rattle.http_request.specs.declared.call.Call.{Call};
 ghost use Rattle.http_request.specs.declared.call.Form.{Form};
@@ -46,11 +46,12 @@ pub fn calls_law()
 
 /// A law of replies in JSON: a reader of JSON gives the very texts back of which they are made, each at its key, and
 /// nothing else: of a reply the line that answers, the number, the name and the sentence of a refusal, and the lines of
-/// what is told and noted; of a report its rows. Costs nothing.
+/// what is told and noted, and how many entries the branch has; of a report its rows. Costs nothing.
 pub fn replies_law()
     ensures reply { (styles : List Style) (reply : Result Answer Refused) (told noted : List ℕ)
-        → (d : Data) × (read (reply_json styles reply told noted) ≡ Some d)
-        × HasMembers (reply_members styles reply told noted) d }
+        (entries : Option ℕ)
+        → (d : Data) × (read (reply_json styles reply told noted entries) ≡ Some d)
+        × HasMembers (reply_members styles reply told noted entries) d }
     ensures report { (f : Federation) (report : Report) → (d : Data) × (read (report_json f report) ≡ Some d)
         × HasMembers (report_members f report) d }
 {

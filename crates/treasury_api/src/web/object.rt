@@ -1,21 +1,24 @@
 //! Replies in JSON: the object of an answer, if it is none of a report.
 
 ghost use Rattle.std.specs.Prelude.{◌≡◌, ◌≤◌, ◌+◌, ◌-◌, ◌++◌, [], true, false, length, take, vec_capacity, OnOk, OnErr};
-ghost use Rattle.std.specs.Prelude.{IsOk, IsTrue, codes};
+ghost use Rattle.std.specs.Prelude.{IsOk, IsTrue, IfSome, None, codes, decimal, option_map};
 ghost use Rattle.std.specs.Str.{is_utf8};
 ghost use Rattle.json_text.specs.JsonText.{object_text};
 ghost use Rattle.json_text.specs.Members.{members_of};
 ghost use Rattle.treasury_requests.specs.Request.{HasDayNumbers, is_report};
 ghost use Rattle.treasury_api.specs.WebServing.{done_json, refusal_json, refused_json, IsJsonDone, IsJsonRefused};
-ghost use Rattle.treasury_api.specs.WebServing.{IsJsonRefusal};
+ghost use Rattle.treasury_api.specs.WebServing.{IsJsonRefusal, entries_told};
 
+use crate::asking::entries_asked;
 use crate::running::Line;
 use crate::telling::said_beside;
+use book_core::Ledger;
 use itoa::Buffer;
 use json_text::{Member, MemberValue, push_object};
 use money_core::Cause;
 use sqlite::Alter;
 use std::alloc::{AllocError, Global};
+use treasury_core::State;
 use treasury_requests::Spelled;
 use treasury_store::Treasury;
 use treasury_told::explain::{explain_request, sentence};
@@ -67,84 +70,100 @@ fn push_object_line(members: &[Member], out: &mut Vec<u8>) -> Result<(), AllocEr
     }
 }
 
-/// Appends the object of an answer that is no refusal, by its line and what is noted.
-fn push_done<'a>(line: &'a [u8], noted: &'a [u8], out: &mut Vec<u8>) -> Result<(), AllocError>
-    ensures ok { OnOk result (out.new.items ≡ out.old.items ++ done_json line.now noted.now) }
-    ensures err { OnErr result (out.new.items ≡ out.old.items) }
-    ensures room { length line.now ≤ MOST_LINE → noted.now ≡ []
-        → length out.old.items + MOST_JSON ≤ vec_capacity out.old
-        → IsOk result }
-    ensures capacity { vec_capacity out.old ≤ vec_capacity out.new }
+/// The member of a text.
+fn text<'a>(key: &'a [u8], text: &'a [u8]) -> Member<'a>
+    ensures { result ≡ record { key = key.entry; value = MemberValue.Text text.entry } }
 {
-    push_object_line(
-        &[
-            Member {
-                key: b"answer",
-                value: MemberValue::Text(line),
-            },
-            Member {
-                key: b"told",
-                value: MemberValue::Lines(b""),
-            },
-            Member {
-                key: b"notes",
-                value: MemberValue::Lines(noted),
-            },
-        ],
-        out,
-    )
+    Member {
+        key,
+        value: MemberValue::Text(text),
+    }
 }
 
-/// Appends the object of a refusal, by its line, its number, its name, its sentence and what is told.
+/// The member of the lines of a text.
+fn lines<'a>(key: &'a [u8], text: &'a [u8]) -> Member<'a>
+    ensures { result ≡ record { key = key.entry; value = MemberValue.Lines text.entry } }
+{
+    Member {
+        key,
+        value: MemberValue::Lines(text),
+    }
+}
+
+/// Appends the object of an answer that is no refusal, by its line, what is noted, and the entries of its branch.
+fn push_done<'a>(
+    line: &'a [u8],
+    noted: &'a [u8],
+    entries: Option<usize>,
+    out: &mut Vec<u8>,
+) -> Result<(), AllocError>
+    ensures ok { OnOk result (out.new.items ≡ out.old.items ++ done_json line.now noted.now entries) }
+    ensures err { OnErr result (out.new.items ≡ out.old.items) }
+    ensures room { length out.old.items + length (done_json line.now noted.now entries) ≤ vec_capacity out.old
+        → IsOk result }
+    ensures digits { IfSome entries (λ n. length (decimal n) ≤ 40) }
+    ensures capacity { vec_capacity out.old ≤ vec_capacity out.new }
+{
+    let (answer, told, notes) = (
+        text(b"answer", line),
+        lines(b"told", b""),
+        lines(b"notes", noted),
+    );
+    match entries {
+        Some(entries) => {
+            let mut digits = Buffer::new();
+            let entries = text(b"entries", digits.format(entries).as_bytes());
+            push_object_line(&[answer, told, notes, entries], out)
+        }
+        None => push_object_line(&[answer, told, notes], out),
+    }
+}
+
+/// Appends the object of a refusal, by its line, its number, its name, its sentence, what is told, and the entries of
+/// its branch.
 fn push_refusal<'a>(
     line: &'a [u8],
     nr: &'a [u8],
     name: &'a [u8],
     sentence: &'a [u8],
     told: &'a [u8],
+    entries: Option<usize>,
     out: &mut Vec<u8>,
 ) -> Result<(), AllocError>
     ensures ok { OnOk result (out.new.items
-        ≡ out.old.items ++ refusal_json line.now nr.now name.now sentence.now told.now) }
+        ≡ out.old.items ++ refusal_json line.now nr.now name.now sentence.now told.now entries) }
     ensures err { OnErr result (out.new.items ≡ out.old.items) }
-    ensures room { length out.old.items + length (refusal_json line.now nr.now name.now sentence.now told.now)
+    ensures room { length out.old.items + length (refusal_json line.now nr.now name.now sentence.now told.now entries)
         ≤ vec_capacity out.old → IsOk result }
+    ensures digits { IfSome entries (λ n. length (decimal n) ≤ 40) }
     ensures capacity { vec_capacity out.old ≤ vec_capacity out.new }
 {
-    push_object_line(
-        &[
-            Member {
-                key: b"answer",
-                value: MemberValue::Text(line),
-            },
-            Member {
-                key: b"number",
-                value: MemberValue::Text(nr),
-            },
-            Member {
-                key: b"name",
-                value: MemberValue::Text(name),
-            },
-            Member {
-                key: b"sentence",
-                value: MemberValue::Text(sentence),
-            },
-            Member {
-                key: b"told",
-                value: MemberValue::Lines(told),
-            },
-            Member {
-                key: b"notes",
-                value: MemberValue::Lines(b""),
-            },
-        ],
-        out,
-    )
+    let (answer, number, name) = (
+        text(b"answer", line),
+        text(b"number", nr),
+        text(b"name", name),
+    );
+    let (sentence, told) = (text(b"sentence", sentence), lines(b"told", told));
+    let notes = lines(b"notes", b"");
+    match entries {
+        Some(entries) => {
+            let mut digits = Buffer::new();
+            let entries = text(b"entries", digits.format(entries).as_bytes());
+            push_object_line(&[answer, number, name, sentence, told, notes, entries], out)
+        }
+        None => push_object_line(&[answer, number, name, sentence, told, notes], out),
+    }
 }
 
-/// Appends the object of a refusal, by its line, its cause and what is told.
-fn push_refused(line: &[u8], cause: Cause, told: &[u8], out: &mut Vec<u8>) -> Result<(), AllocError>
-    ensures ok { OnOk result (out.new.items ≡ out.old.items ++ refused_json line.now cause told.now) }
+/// Appends the object of a refusal, by its line, its cause, what is told, and the entries of its branch.
+fn push_refused(
+    line: &[u8],
+    cause: Cause,
+    told: &[u8],
+    entries: Option<usize>,
+    out: &mut Vec<u8>,
+) -> Result<(), AllocError>
+    ensures ok { OnOk result (out.new.items ≡ out.old.items ++ refused_json line.now cause told.now entries) }
     ensures err { OnErr result (out.new.items ≡ out.old.items) }
     ensures room { length line.now ≤ MOST_LINE → told.now ≡ [] → length out.old.items + MOST_JSON
         ≤ vec_capacity out.old → IsOk result }
@@ -154,24 +173,35 @@ fn push_refused(line: &[u8], cause: Cause, told: &[u8], out: &mut Vec<u8>) -> Re
     let nr = buffer.format(cause.nr()).as_bytes();
     let name = cause.name().as_bytes();
     let said = sentence(cause).as_bytes();
-    push_refusal(line, nr, name, said, told, out)
+    push_refusal(line, nr, name, said, told, entries, out)
 }
 
-/// The object of an answer that is no refusal, in room for a plain one, by its line, of at most 63 bytes, and what is
-/// noted; nothing is noted where memory is refused for it.
-fn done_object(line: &[u8], noted: &[u8], room: Vec<u8>) -> Vec<u8>
+/// The object of an answer that is no refusal, in room for a plain one, by its line, of at most 63 bytes, what is
+/// noted, and the entries of its branch; nothing is noted where memory is refused for it.
+fn done_object(line: &[u8], noted: &[u8], entries: Option<usize>, room: Vec<u8>) -> Vec<u8>
     requires line { length line.now ≤ MOST_LINE }
     requires empty { room.items ≡ [] }
     requires room { MOST_JSON ≤ vec_capacity room }
-    ensures { IsJsonDone line.now result.items }
+    ensures { IsJsonDone line.now entries result.items }
 {
     let mut body = room;
-    match push_done(line, utf8_of(noted), &mut body) {
+    match push_done(line, utf8_of(noted), entries, &mut body) {
         Ok(()) => body,
-        Err(_) => match push_done(line, b"", &mut body) {
+        Err(_) => match push_done(line, b"", entries, &mut body) {
             Ok(()) => body,
             Err(_) => unreachable!(),
         },
+    }
+}
+
+/// How many entries the branch has that a dry run is on, as far as the state is in memory.
+pub fn entries_told<L: Ledger>(state: Option<&State<L>>, request: &Spelled) -> Option<usize>
+    ensures { result ≡ entries_told (option_map (λ s. s.now) state.entry) request.now }
+{
+    if request.terms.is_dry_run {
+        entries_asked(state?, &request.request)
+    } else {
+        None
     }
 }
 
@@ -190,33 +220,41 @@ pub fn done_in_json<S: Alter>(
     requires room { MOST_JSON ≤ vec_capacity room }
     ensures report { IsTrue (is_report request.now.request) → result.items ≡ text.items }
     ensures other { is_report request.now.request ≡ false → length text.items ≤ 64
-        → IsJsonDone (take (length text.items - 1) text.items) result.items }
+        → IsJsonDone (take (length text.items - 1) text.items) (entries_told treasury.now.held request.now)
+        result.items }
 {
     if request.request.is_report() {
         return text;
     }
     let noted = said_beside(alloc, treasury.state(), request, held, None);
     let line = line_of(text.as_slice());
-    done_object(&line[..line.len().min(MOST_LINE)], noted.as_slice(), room)
+    let entries = entries_told(treasury.state(), request);
+    done_object(
+        &line[..line.len().min(MOST_LINE)],
+        noted.as_slice(),
+        entries,
+        room,
+    )
 }
 
-/// Appends the object of a refusal, by its line, its cause and what is told; nothing is told where memory is refused
-/// for it.
+/// Appends the object of a refusal, by its line, its cause, what is told, and the entries of its branch; nothing is
+/// told where memory is refused for it.
 fn push_refused_at_least(
     line: &[u8],
     cause: Cause,
     told: &[u8],
+    entries: Option<usize>,
     out: &mut Vec<u8>,
 ) -> Result<(), AllocError>
     requires { out.old.items ≡ [] }
-    ensures ok { OnOk result (IsJsonRefused line.now cause out.new.items) }
+    ensures ok { OnOk result (IsJsonRefused line.now cause entries out.new.items) }
     ensures err { OnErr result (out.new.items ≡ []) }
     ensures room { length line.now ≤ MOST_LINE → MOST_JSON ≤ vec_capacity out.old → IsOk result }
     ensures capacity { vec_capacity out.old ≤ vec_capacity out.new }
 {
-    match push_refused(line, cause, utf8_of(told), out) {
+    match push_refused(line, cause, utf8_of(told), entries, out) {
         Ok(()) => Ok(()),
-        Err(_) => push_refused(line, cause, b"", out),
+        Err(_) => push_refused(line, cause, b"", entries, out),
     }
 }
 
@@ -225,24 +263,30 @@ pub fn refuse_plain_in_json(line: &[u8], cause: Cause, told: &[u8], room: Vec<u8
     requires line { length line.now ≤ MOST_LINE }
     requires empty { room.items ≡ [] }
     requires room { MOST_JSON ≤ vec_capacity room }
-    ensures { IsJsonRefused line.now cause result.items }
+    ensures { IsJsonRefused line.now cause None result.items }
 {
     let mut body = room;
-    match push_refused_at_least(line, cause, told, &mut body) {
+    match push_refused_at_least(line, cause, told, None, &mut body) {
         Ok(()) => body,
         Err(_) => unreachable!(),
     }
 }
 
-/// The object of a refusal, in room for a plain one, by its line and its cause, and what is told. Where memory is
-/// refused for one that is not plain, it is the object of 40.
-pub fn refuse_in_json(line: &Line, told: &[u8], room: Vec<u8>) -> Line
+/// The object of a refusal, in room for a plain one, by its line and its cause, what is told, and the entries of its
+/// branch. Where memory is refused for one that is not plain, it is the object of 40.
+pub fn refuse_in_json(line: &Line, told: &[u8], entries: Option<usize>, room: Vec<u8>) -> Line
     requires empty { room.items ≡ [] }
     requires room { MOST_JSON ≤ vec_capacity room }
-    ensures { IsJsonRefusal line.now.text.items line.now.cause result.cause result.text.items }
+    ensures { IsJsonRefusal line.now.text.items line.now.cause entries result.cause result.text.items }
 {
     let mut text = room;
-    match push_refused_at_least(line_of(line.text.as_slice()), line.cause, told, &mut text) {
+    match push_refused_at_least(
+        line_of(line.text.as_slice()),
+        line.cause,
+        told,
+        entries,
+        &mut text,
+    ) {
         Ok(()) => Line {
             text,
             cause: line.cause,

@@ -55,7 +55,7 @@ pub fn status_of(cause: Cause) -> Status
 {
     match cause.nr() {
         44 => Status::BadRequest,
-        20..=39 | 47 => Status::Conflict,
+        20..=39 | 47..=48 => Status::Conflict,
         1..=18 => Status::Unprocessable,
         43 => Status::Internal,
         _ => Status::Unavailable,

@@ -42,6 +42,7 @@ pub enum Key {
     Into,
     Tag,
     DryRun,
+    IfEntries,
 }
 
 /// Each word, commands first.
@@ -85,6 +86,7 @@ impl Key {
             Key::Into => "into",
             Key::Tag => "tag",
             Key::DryRun => "dry-run",
+            Key::IfEntries => "if-entries",
         }
     }
 }
@@ -150,11 +152,11 @@ impl Word {
         match self {
             Word::Branch => &[Key::DryRun],
             Word::Commodity => &[Key::DryRun],
-            Word::Import => &[Key::DryRun],
-            Word::Dispatch => &[Key::DryRun],
-            Word::Receive => &[Key::Part, Key::Amount, Key::DryRun],
-            Word::Lock => &[Key::DryRun],
-            Word::Close => &[Key::Accounts, Key::Into, Key::DryRun],
+            Word::Import => &[Key::DryRun, Key::IfEntries],
+            Word::Dispatch => &[Key::DryRun, Key::IfEntries],
+            Word::Receive => &[Key::Part, Key::Amount, Key::DryRun, Key::IfEntries],
+            Word::Lock => &[Key::DryRun, Key::IfEntries],
+            Word::Close => &[Key::Accounts, Key::Into, Key::DryRun, Key::IfEntries],
             Word::Register => &[Key::Tag],
             _ => &[],
         }

@@ -6,15 +6,20 @@ ghost use Rattle.journal_lines.specs.Date.{IsDayNumber};
 ghost use Rattle.treasury_requests.specs.Request.{text_at, day_at, key_count, dispatch_at, receive_at, part_at};
 ghost use Rattle.treasury_requests.specs.Request.{chosen_at};
 ghost use Rattle.treasury_requests.specs.Request.{both_at, tagged_at, list_form, report_form, close_form, form};
-ghost use Rattle.treasury_requests.specs.Request.{request_of, HasDayNumbers, form_keys, is_report, yes_or_no};
+ghost use Rattle.treasury_requests.specs.Request.{request_of, HasDayNumbers, form_keys, key_at, is_report, yes_or_no};
+ghost use Rattle.treasury_requests.specs.Request.{is_on_a_book, terms_at, may_have_terms};
 ghost use Rattle.treasury_requests.specs.Form.{form_view, shown_whole};
 
-use journal_lines::read_date;
+use crate::request::Terms;
+use journal_lines::{read_count, read_date};
 use money_core::Day;
 use serde_json::Value;
 
 /// The key of a dry run.
 const DRY_RUN: &str = "dry-run";
+
+/// The key of how many entries the branch has to have.
+const IF_ENTRIES: &str = "if-entries";
 
 /// A part of a transfer whose texts are those of a JSON value.
 #[derive(Clone, Copy, Drop)]
@@ -86,11 +91,11 @@ pub enum Form<'a> {
     },
 }
 
-/// A form, and whether it is a dry run.
+/// A form, and on what terms it is given.
 #[derive(Clone, Copy, Drop)]
 pub struct SpelledForm<'a> {
     pub form: Form<'a>,
-    pub is_dry_run: bool,
+    pub terms: Terms,
 }
 
 impl Form<'_> {
@@ -107,6 +112,20 @@ impl Form<'_> {
             Form::Commodities => true,
             Form::Accounts { .. } => true,
             Form::Transfers { .. } => true,
+            _ => false,
+        }
+    }
+
+    /// Whether it is a command on the book of one branch.
+    fn is_on_a_book(&self) -> bool
+        ensures { result ≡ is_on_a_book (form_view self.now) }
+    {
+        match self {
+            Form::Import { .. } => true,
+            Form::Dispatch { .. } => true,
+            Form::Receive { .. } => true,
+            Form::Lock { .. } => true,
+            Form::Close { .. } => true,
             _ => false,
         }
     }
@@ -138,15 +157,23 @@ fn count_keys(value: &Value) -> usize
     }
 }
 
-/// How many keys an object has beside the one of a dry run.
+/// Whether a key is there, as a count.
+fn count_key(value: &Value, key: &str) -> usize
+    ensures { result ≡ key_at key.now (view value.now) }
+{
+    match value.get(key) {
+        Some(_) => 1,
+        None => 0,
+    }
+}
+
+/// How many keys an object has beside those of its terms.
 fn count_form_keys(value: &Value) -> usize
     ensures { result ≡ form_keys (view value.now) }
 {
-    let keys = count_keys(value);
-    match value.get(DRY_RUN) {
-        Some(_) => keys.saturating_sub(1),
-        None => keys,
-    }
+    count_keys(value)
+        .saturating_sub(count_key(value, DRY_RUN))
+        .saturating_sub(count_key(value, IF_ENTRIES))
 }
 
 /// The form of a dispatch, where all its keys are there.
@@ -384,26 +411,43 @@ pub(crate) fn yes_or_no(text: &str) -> Option<bool>
     }
 }
 
-/// The form of a value, if it has one: the word's keys, each with a text, and no further key but `dry-run` in that of a
-/// command, with `yes` or `no`.
+/// The terms that the keys for them say.
+fn terms_of(value: &Value) -> Option<Terms>
+    ensures { result ≡ terms_at (view value.now) }
+{
+    let is_dry_run = match value.get(DRY_RUN) {
+        Some(said) => yes_or_no(said.as_str()?)?,
+        None => false,
+    };
+    let if_entries = match value.get(IF_ENTRIES) {
+        Some(said) => Some(read_count(said.as_str()?.as_bytes())?),
+        None => None,
+    };
+    Some(Terms {
+        is_dry_run,
+        if_entries,
+    })
+}
+
+/// Whether the request of a form may have the keys of terms that are there.
+fn may_have_terms(value: &Value, form: &Form<'_>) -> bool
+    ensures { result ≡ may_have_terms (view value.now) (form_view form.now) }
+{
+    (value.get(DRY_RUN).is_none() || !form.is_report())
+        && (value.get(IF_ENTRIES).is_none() || form.is_on_a_book())
+}
+
+/// The form of a value, if it has one: the word's keys, each with a text, and no further key but those of the terms
+/// that the request may have.
 pub fn form_of<'a>(value: &'a Value) -> Option<SpelledForm<'a>>
     ensures value { option_map shown_whole result ≡ request_of (view value.now) }
     ensures days { IfSome result (λ spelled. HasDayNumbers (form_view spelled.form)) }
 {
     let word = text_at(value, "do")?;
     let form = form_by(word, value)?;
-    match value.get(DRY_RUN) {
-        None => Some(SpelledForm {
-            form,
-            is_dry_run: false,
-        }),
-        Some(said) => {
-            let is_dry_run = yes_or_no(said.as_str()?)?;
-            if form.is_report() {
-                None
-            } else {
-                Some(SpelledForm { form, is_dry_run })
-            }
-        }
+    if !may_have_terms(value, &form) {
+        return None;
     }
+    let terms = terms_of(value)?;
+    Some(SpelledForm { form, terms })
 }

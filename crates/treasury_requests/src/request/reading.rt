@@ -154,7 +154,7 @@ pub fn request_of(alloc: Global, form: Form) -> Result<Request, Cause>
     }
 }
 
-/// The request that a text spells, and whether it is a dry run.
+/// The request that a text spells, and on what terms.
 ///
 /// 44 comes only where the text is no JSON object of a request's form, and 40 where there is no memory to read it.
 #[tactic(auto, unfolding(crate::specs::Request::spelled))]
@@ -181,7 +181,7 @@ pub fn read_command(alloc: Global, text: &str) -> Result<Spelled, Cause>
     match request_of(alloc, spelled.form) {
         Ok(request) => Ok(Spelled {
             request,
-            is_dry_run: spelled.is_dry_run,
+            terms: spelled.terms,
         }),
         Err(_) => Err(Cause::OutOfMemory),
     }

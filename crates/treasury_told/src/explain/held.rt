@@ -4,7 +4,7 @@ ghost use Rattle.std.specs.Prelude.{◌≡◌, ◌++◌, false, OnOk};
 ghost use Rattle.std.specs.Option.{option_map};
 ghost use Rattle.std.specs.Result.{IsOkUnless};
 ghost use Rattle.treasury_told.specs.Detail.{has_detail};
-ghost use Rattle.treasury_told.specs.Lock.{branch_asked, close_hint, locked_line, lock_text};
+ghost use Rattle.treasury_told.specs.Lock.{close_hint, locked_line, lock_text};
 
 use crate::explain::hints::{push_amount_form, push_sample, push_sample_form, push_samples};
 use crate::explain::pieces::push_day;
@@ -34,20 +34,6 @@ const LISTED: &[u8] =
 /// Said where a branch is closed at a day that is locked.
 const CLOSE_FIRST: &[u8] =
     b"a branch cannot be closed at a day that is locked: close first, which also locks it";
-
-/// The branch that a request takes entries into, or locks.
-fn branch_of(request: &Request) -> Option<&Text>
-    ensures { option_map (λ name. name.now) result ≡ branch_asked request.now }
-{
-    match request {
-        Request::Import { branch, .. } => Some(branch),
-        Request::Dispatch { from, .. } => Some(from),
-        Request::Receive { branch, .. } => Some(branch),
-        Request::Lock { branch, .. } => Some(branch),
-        Request::Close { branch, .. } => Some(branch),
-        _ => None,
-    }
-}
 
 /// The account of a request.
 fn account_of(request: &Request) -> Option<&Text> {
@@ -109,7 +95,7 @@ pub fn push_lock<L: Ledger>(
     ensures value { OnOk result (out.new.items ≡ out.old.items ++ lock_text state.now request.now) }
     ensures memory { IsOkUnless result Cause.OutOfMemory }
 {
-    let Some(branch) = branch_of(request) else {
+    let Some(branch) = request.branch() else {
         return Ok(());
     };
     let name = branch.as_str();
@@ -153,7 +139,7 @@ fn push_count<L: Ledger>(
         Request::Branch { .. } => push_line(b"a treasury has at most 32 branches", out),
         Request::Commodity { .. } => push_line(b"a treasury has at most 16 commodities", out),
         _ => {
-            let Some(name) = branch_of(request) else {
+            let Some(name) = request.branch() else {
                 return Ok(());
             };
             let Some(branch) = branch_named(state, name.as_str()) else {

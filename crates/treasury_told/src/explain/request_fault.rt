@@ -6,7 +6,7 @@ ghost use Rattle.treasury_told.specs.RequestFaults.{kind_text, byte_place_text, 
 ghost use Rattle.treasury_told.specs.RequestFaults.{word_text, words_text, further_text, word_keys_text};
 ghost use Rattle.treasury_told.specs.RequestFaults.{json_text, not_string_text, other_text};
 ghost use Rattle.treasury_told.specs.RequestFaults.{missing_key_text, missing_text, there_text, alone_text, half_text};
-ghost use Rattle.treasury_told.specs.RequestFaults.{utf8_text, no_object_text, day_text, choice_text};
+ghost use Rattle.treasury_told.specs.RequestFaults.{utf8_text, no_object_text, day_text, choice_text, count_text};
 ghost use Rattle.treasury_told.specs.RequestFaults.{unknown_word_text};
 ghost use Rattle.treasury_told.specs.RequestFaults.{fault_text, told_of};
 ghost use Rattle.treasury_requests.specs.RequestFault.{IsFirstRequestFault};
@@ -264,6 +264,15 @@ fn push_no_choice(text: &Text, out: &mut Vec<u8>) -> Result<(), Cause>
     push_line(b"dry-run is yes or no", out)
 }
 
+/// Appends the value that does not say how many entries the branch has to have, and what does.
+fn push_no_count(text: &Text, out: &mut Vec<u8>) -> Result<(), Cause>
+    ensures value { OnOk result (out.new.items ≡ out.old.items ++ count_text text.now) }
+    ensures memory { IsOkUnless result Cause.OutOfMemory }
+{
+    push_named(b"if-entries", text.as_str().as_bytes(), out)?;
+    push_line(b"if-entries is a number of 1 to 5 digits", out)
+}
+
 /// Appends what is said of a fault, in lines.
 pub fn push_request_fault(fault: &RequestFault, out: &mut Vec<u8>) -> Result<(), Cause>
     ensures value { OnOk result (out.new.items ≡ out.old.items ++ fault_text fault.now) }
@@ -293,6 +302,7 @@ pub fn push_request_fault(fault: &RequestFault, out: &mut Vec<u8>) -> Result<(),
             other,
         } => push_half(*there, *missing, other, out),
         RequestFault::NoChoice { text } => push_no_choice(text, out),
+        RequestFault::NoCount { text } => push_no_count(text, out),
     }
 }
 

@@ -69,5 +69,6 @@ pub fn sentence(cause: Cause) -> &'static str
         Cause::ReadFault => "a read failed, ended too early, or exceeded its limit",
         Cause::WriteFault => "a write failed",
         Cause::TooMuch => "the amount of a part is more than what is left, or in another commodity",
+        Cause::Changed => "the branch has another number of entries than `if-entries` says",
     }
 }

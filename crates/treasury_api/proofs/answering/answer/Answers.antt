@@ -1,13 +1,11 @@
 use Rattle.std.proofs.Common.{◌≡◌, ◌∙◌, ◌++◌, List, Ok, Err, true, false, inl, refl, ap, sym, subst}
 use Rattle.std.specs.Prelude.{◌↔◌}
 use Rattle.money_core.specs.declared.cause.Cause.TheVariants.{UnknownBranch}
-use Rattle.money_core.specs.declared.style.Style.{Style}
 use Rattle.treasury_state.specs.Federation.{Federation}
 use Rattle.treasury_store.specs.Treasury.{Treasury, IsTreasuryOf}
 use Rattle.treasury_store.proofs.TreasuryLemmas.{ok_unfailed}
 use Rattle.treasury_store.proofs.LeftLemmas.{shuts_by, shuts_then}
 use Rattle.treasury_store.proofs.OwnRefusalLemmas.{listed_unheld}
-use Rattle.treasury_api.specs.Answer.{IsPrintableRefusal}
 use Rattle.treasury_api.specs.Asked.{SpelledAsks}
 use Rattle.treasury_api.specs.Report.{report_in, has_its_branch}
 use Rattle.treasury_api.specs.Serving.{OrMemory, IsForeseen}
@@ -31,7 +29,7 @@ answer_command-requires-clause-held g c = (
   (
     c.in-Some.ensures,
     (
-      command_fits _ _ _ _ c.styles.ensures c.in-Ok-Command.field-0-is c.in-Ok-Command.ensures.ready,
+      command_fits _ _ _ c.in-Ok-Command.field-0-is c.in-Ok-Command.ensures.ready,
       c.is_good.ensures,
     ),
   ),
@@ -52,7 +50,7 @@ returns-in-Ok-Command-clause-replies g c clean f of =
     answered_by_reply g.S.Store c.args.treasury.now.store.failed c.answer_command.new.treasury f c.args.request.now
     (Ok (Command c.in-Ok-Command.command)) c.answer_command.result _ _
     (held_unfailed _ c.in-Ok.field-0 c.hold.result c.in-Ok.is c.hold.ensures.closed)
-    (SpelledAsks_of_same _ _ _ _ _ (c.styles.ensures ∙ ap (λ (x : Federation). x.styles) same)
+    (SpelledAsks_of_same _ _ _ _ _ same
     c.in-Ok-Command.field-0-is
     c.in-Ok-Command.ensures.asks)
     (c.answer_command.ensures.replies clean f still_of c.args.form)
@@ -67,7 +65,7 @@ returns-in-Ok-push_report_in-clause-replies g c clean f of =
     c.push_report_in.ensures.unknown in
     answered_by_reply g.S.Store c.args.treasury.now.store.failed c.hold.new.self f c.args.request.now
     (Ok (Report c.in-Ok-Report.report)) _ _ _ was
-    (SpelledAsks_of_same _ _ _ _ _ (c.styles.ensures ∙ ap (λ (x : Federation). x.styles) same) c.in-Ok-Report.field-0-is
+    (SpelledAsks_of_same _ _ _ _ _ same c.in-Ok-Report.field-0-is
     c.in-Ok-Report.ensures.asks)
     (report_replied g.S.Store c.hold.new.self f c.in-Ok-Report.report _ _ _ still_of
     (ok_unfailed c.in-Ok.field-0 _ (c.in-Ok.ensures.answers was))
@@ -83,7 +81,7 @@ returns-in-Ok-Report-clause-replies g c clean f of =
     let was = held_unfailed _ c.in-Ok.field-0 c.hold.result c.in-Ok.is c.hold.ensures.closed in
     answered_by_reply g.S.Store c.args.treasury.now.store.failed c.hold.new.self f c.args.request.now
     (Ok (Report c.in-Ok-Report.report)) _ _ _ was
-    (SpelledAsks_of_same _ _ _ _ _ (c.styles.ensures ∙ ap (λ (x : Federation). x.styles) same) c.in-Ok-Report.field-0-is
+    (SpelledAsks_of_same _ _ _ _ _ same c.in-Ok-Report.field-0-is
     c.in-Ok-Report.ensures.asks)
     (report_refused g.S.Store c.hold.new.self f c.in-Ok-Report.report c.in-Err-push_report_in.cause
     c.push_report_in.result
@@ -101,8 +99,8 @@ returns-clause-replies g c clean f of =
     let was = held_unfailed _ c.in-Ok.field-0 c.hold.result c.in-Ok.is c.hold.ensures.closed in
     refused_texts c.reading_law.ensures.some g.S.Store c.args.treasury.now.store.failed c.hold.new.self f
     c.args.request.now c.in-Err-asked_by.refusal _ _ _ was
-    (subst (λ (x : List Style). OrMemory (SpelledAsks x c.args.request.now) (Err c.in-Err-asked_by.refusal))
-    (c.styles.ensures ∙ ap (λ (x : Federation). x.styles) same) c.in-Err-asked_by.ensures.asks)
+    (subst (λ (x : Federation). OrMemory (SpelledAsks x c.args.request.now) (Err c.in-Err-asked_by.refusal))
+    same c.in-Err-asked_by.ensures.asks)
     refl still_of (ok_unfailed c.in-Ok.field-0 _ (c.in-Ok.ensures.answers was)) refl
 
 -- ---- where the state cannot be had
@@ -164,10 +162,10 @@ returns-in-Ok-Command-clause-strange g c clean unfailed unheld none =
 pub returns-in-Ok-Command-clause-left : goal.returns-in-Ok-Command-clause-left
 returns-in-Ok-Command-clause-left g c =
     let means : (f : Federation) → IsTreasuryOf g.S.Store c.hold.new.self f
-    → SpelledAsks f.styles c.args.request.now (Ok (Command c.in-Ok-Command.command)) = λ f of.
+    → SpelledAsks f c.args.request.now (Ok (Command c.in-Ok-Command.command)) = λ f of.
     let same : c.in-Some.state.now ≡ f =
     state_is g.S.Store c.hold.new.self c.in-Some.state.now f of c.in-Some.ensures in
-    SpelledAsks_of_same _ _ _ _ _ (c.styles.ensures ∙ ap (λ (x : Federation). x.styles) same) c.in-Ok-Command.field-0-is
+    SpelledAsks_of_same _ _ _ _ _ same c.in-Ok-Command.field-0-is
     c.in-Ok-Command.ensures.asks in
     left_command g.S.Store c.args.treasury.now c.hold.new.self c.answer_command.new.treasury c.args.request.now
     c.in-Ok-Command.command
@@ -177,7 +175,7 @@ returns-in-Ok-Command-clause-left g c =
       (
         c.in-Some.ensures,
         (
-          command_fits _ _ _ _ c.styles.ensures c.in-Ok-Command.field-0-is c.in-Ok-Command.ensures.ready,
+          command_fits _ _ _ c.in-Ok-Command.field-0-is c.in-Ok-Command.ensures.ready,
           c.is_good.ensures,
         ),
       ),
@@ -188,7 +186,7 @@ returns-in-Ok-Command-clause-left g c =
 
 pub answer_dry_run-requires : goal.answer_dry_run-requires
 answer_dry_run-requires g c =
-    dry_run_fits _ _ _ _ c.styles.ensures c.in-Ok-DryRun.field-0-is c.in-Ok-DryRun.ensures.ready
+    dry_run_fits _ _ _ c.in-Ok-DryRun.field-0-is c.in-Ok-DryRun.ensures.ready
 
 pub returns-in-Ok-DryRun-clause-replies : goal.returns-in-Ok-DryRun-clause-replies
 returns-in-Ok-DryRun-clause-replies g c clean f of =
@@ -198,7 +196,7 @@ returns-in-Ok-DryRun-clause-replies g c clean f of =
     let was = held_unfailed _ c.in-Ok.field-0 c.hold.result c.in-Ok.is c.hold.ensures.closed in
     answered_by_reply g.S.Store c.args.treasury.now.store.failed c.hold.new.self f c.args.request.now
     (Ok (DryRun c.in-Ok-DryRun.command)) c.answer_dry_run.result _ _ was
-    (SpelledAsks_of_same _ _ _ _ _ (c.styles.ensures ∙ ap (λ (x : Federation). x.styles) same) c.in-Ok-DryRun.field-0-is
+    (SpelledAsks_of_same _ _ _ _ _ same c.in-Ok-DryRun.field-0-is
     c.in-Ok-DryRun.ensures.asks)
     (dry_run_replied g.S.Store c.hold.new.self f c.in-Ok-DryRun.command c.answer_dry_run.result c.args.out.now.items
     c.answer_dry_run.new.out.items still_of (ok_unfailed c.in-Ok.field-0 _ (c.in-Ok.ensures.answers was))
@@ -217,7 +215,7 @@ returns-in-Ok-DryRun-clause-refuses g c = record {
   printable =
       foreseen_printable c.hold.new.self c.in-Some.state.now c.in-Ok-DryRun.command c.answer_dry_run.result
       c.args.out.now.items c.answer_dry_run.new.out.items c.in-Some.ensures c.is_good.ensures
-      (dry_run_fits _ _ _ _ c.styles.ensures c.in-Ok-DryRun.field-0-is c.in-Ok-DryRun.ensures.ready)
+      (dry_run_fits _ _ _ c.in-Ok-DryRun.field-0-is c.in-Ok-DryRun.ensures.ready)
       c.answer_dry_run.ensures.foreseen;
 }
 
@@ -304,8 +302,7 @@ returns-clause-refuses g c = record {
       (ok_unfailed c.in-Ok.field-0 _ (c.in-Ok.ensures.answers unfailed));
   printable =
       in_memory c.hold.new.self c.in-Some.state.now c.in-Err-asked_by.refusal c.in-Some.ensures
-      (subst (λ (x : List Style). IsPrintableRefusal x c.in-Err-asked_by.refusal) c.styles.ensures
-      c.in-Err-asked_by.ensures.ready);
+      c.in-Err-asked_by.ensures.ready;
 }
 
 pub returns-clause-database : goal.returns-clause-database

@@ -11,8 +11,8 @@ returns-in-Ok-import_of c =
     inr (
       c.in-Ok.text.items,
       c.in-Ok.ensures,
-      subst (λ (r : Request). SaysFrom (given c.args.is_dry_run r) (spoken c.with_own_lines.result))
+      subst (λ (r : Request). SaysFrom (given c.args.terms r) (spoken c.with_own_lines.result))
           c.in-Ok-import_of.ensures.request
-          (subst (SaysFrom (given c.args.is_dry_run c.in-Ok-import_of.request)) (sym c.with_own_lines.ensures)
+          (subst (SaysFrom (given c.args.terms c.in-Ok-import_of.request)) (sym c.with_own_lines.ensures)
           c.answer_request_at-said.ensures),
     )

@@ -1,4 +1,5 @@
-use Rattle.std.proofs.Common.{◌∙◌, Bool, Some, ap, sym, subst, inl, inr}
+use Rattle.treasury_requests.specs.declared.request.Terms.{Terms}
+use Rattle.std.proofs.Common.{◌∙◌, Some, ap, sym, subst, inl, inr}
 use Rattle.clap.specs.Matches.{found_of}
 use Rattle.clap.specs.Walk.{rows_of}
 use Rattle.treasury_requests.specs.Form.{form_view}
@@ -14,8 +15,8 @@ returns-in-Ok c =
     inr (
       c.in-Ok.request,
       sym (ap Some c.in-Ok.ensures.equal ∙ c.in-Some.ensures.value),
-      subst (λ (dry : Bool). SaysFrom (given dry c.in-Ok.request) (spoken c.answer_request_at.result))
-          c.is_dry_run.ensures c.answer_request_at.ensures,
+      subst (λ (terms : Terms). SaysFrom (given terms c.in-Ok.request) (spoken c.answer_request_at.result))
+          c.terms_of.ensures c.answer_request_at.ensures,
     )
 
 pub returns-in-Err : goal.returns-in-Err

@@ -1,4 +1,5 @@
-use Rattle.std.proofs.Common.{Bool, sym, subst, inl, inr}
+use Rattle.treasury_requests.specs.declared.request.Terms.{Terms}
+use Rattle.std.proofs.Common.{sym, subst, inl, inr}
 use Rattle.treasury.specs.OverFileParts.{spoken}
 use Rattle.treasury.specs.At.{SaysToBytesAt}
 use Rattle.treasury.proofs.words.at.answer_import_at.Goals as goal
@@ -9,7 +10,7 @@ returns-in-Ok-read_journal c =
       c.in-Some.branch.now,
       c.as_slice-bytes.result.now,
       sym c.in-Some.ensures,
-      subst (λ (dry : Bool).
-          SaysToBytesAt c.in-Some.branch.now dry c.as_slice-bytes.result.now (spoken c.answer_bytes_at.result))
-          c.is_dry_run-is_dry_run.ensures c.answer_bytes_at.ensures,
+      subst (λ (terms : Terms).
+          SaysToBytesAt c.in-Some.branch.now terms c.as_slice-bytes.result.now (spoken c.answer_bytes_at.result))
+          c.terms_of.ensures c.answer_bytes_at.ensures,
     ))

@@ -1,4 +1,5 @@
-use Rattle.std.proofs.Common.{Bool, None, sym, subst, inl, inr}
+use Rattle.treasury_requests.specs.declared.request.Terms.{Terms}
+use Rattle.std.proofs.Common.{None, sym, subst, inl, inr}
 use Rattle.sqlite_wal.specs.Files.{image_at}
 use Rattle.treasury.specs.OverFileParts.{spoken}
 use Rattle.treasury.specs.OverFile.{SaysToJournal}
@@ -10,7 +11,7 @@ returns-in-Ok g c =
       c.in-Some.branch.now,
       None,
       sym c.in-Some.ensures,
-      subst (λ (dry : Bool).
-          SaysToJournal _ (image_at g.S.Start) c.in-Some.branch.now dry None (spoken c.answer_journal.result.said)
-          c.answer_journal.result.left) c.is_dry_run-is_dry_run.ensures c.answer_journal.ensures,
+      subst (λ (terms : Terms).
+          SaysToJournal _ (image_at g.S.Start) c.in-Some.branch.now terms None (spoken c.answer_journal.result.said)
+          c.answer_journal.result.left) c.terms_of.ensures c.answer_journal.ensures,
     )

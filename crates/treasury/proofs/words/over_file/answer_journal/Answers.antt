@@ -12,14 +12,14 @@ returns-in-Ok-import_of g c =
     inr (
       c.in-Ok.bytes.items,
       c.in-Ok.ensures.bytes,
-      said_alike _ _ (given c.args.is_dry_run c.in-Ok-import_of.request) _ (spoken c.answer_request.result.said)
+      said_alike _ _ (given c.args.terms c.in-Ok-import_of.request) _ (spoken c.answer_request.result.said)
           c.answer_request.result.left
-          (ap (λ (r : Request). given c.args.is_dry_run r) c.in-Ok-import_of.ensures.request) c.answer_request.ensures,
+          (ap (λ (r : Request). given c.args.terms r) c.in-Ok-import_of.ensures.request) c.answer_request.ensures,
     )
 
 pub returns-in-Err : goal.returns-in-Err
 returns-in-Err g c =
-    journal_before _ (image_at g.S.Start) c.args.branch.now c.args.is_dry_run (g.R.Read.remaining c.args.reader)
+    journal_before _ (image_at g.S.Start) c.args.branch.now c.args.terms (g.R.Read.remaining c.args.reader)
     c.refused.result c.in-Err.cause c.before-in-Err.result c.before-in-Err.ensures c.in-Err.ensures.refused
     c.refused.ensures
 
@@ -28,7 +28,7 @@ returns-in-Err-import_of g c =
     inr (
       c.in-Ok.bytes.items,
       c.in-Ok.ensures.bytes,
-      says_before _ (image_at g.S.Start) (given c.args.is_dry_run (Import c.args.branch.now c.in-Ok.bytes.items))
+      says_before _ (image_at g.S.Start) (given c.args.terms (Import c.args.branch.now c.in-Ok.bytes.items))
           c.refused-in-Err-import_of.result c.in-Err-import_of.cause c.before-in-Err-import_of.result
           c.before-in-Err-import_of.ensures c.in-Err-import_of.ensures.memory c.refused-in-Err-import_of.ensures,
     )

@@ -1,4 +1,4 @@
-use Rattle.std.proofs.Common.{ℕ, List, Result, codes, refl, inl, inr}
+use Rattle.std.proofs.Common.{ℕ, List, Result, codes, refl, inr}
 use Rattle.std.specs.Str.Parse.{ParsesUnsigned, ExplainsUnsignedError, HasUnsignedDigitsIfOk}
 use Rattle.std.specs.declared.num.ParseIntError.{ParseIntError}
 use Rattle.clap.specs.Matches.{found_of, one_text}
@@ -11,12 +11,6 @@ gives bits bytes r = ParsesUnsigned bits 10 bytes r × ExplainsUnsignedError 10 
 
 pub returns-in-None : goal.returns-in-None
 returns-in-None c =
-    λ none. inr (inl (lacks_number (gives 16) 16 (codes "port") (found_of c.args.values.now)
+    λ none. inr (lacks_number (gives 16) 16 (codes "port") (found_of c.args.values.now)
     (one_text (found_of c.args.values.now) (codes "port")) c.get_one.result refl c.get_one.ensures.value
-    c.in-None.is (λ text error fails. fails.0)))
-
-pub returns-in-None-get_one : goal.returns-in-None-get_one
-returns-in-None-get_one c =
-    λ none. inr (inr (lacks_number (gives 32) 32 (codes "requests") (found_of c.args.values.now)
-    (one_text (found_of c.args.values.now) (codes "requests")) c.get_one-2.result refl c.get_one-2.ensures.value
-    c.in-None-get_one.is (λ text error fails. fails.0)))
+    c.in-None.is (λ text error fails. fails.0))

@@ -1,4 +1,4 @@
-use Rattle.std.proofs.Common.{◌≡◌, ◌≤◌, ◌+◌, ℕ, List, Result, inl, refl, subst, length, arith, false, ap, sym, ◌∙◌}
+use Rattle.std.proofs.Common.{◌≡◌, ◌≤◌, ◌+◌, ℕ, List, Option, Result, inl, refl, subst, length, arith, false, ap, sym, ◌∙◌}
 use Rattle.http_request.specs.declared.call.Form.TheVariants as form
 use Rattle.book_core.specs.declared.refusal.Refusal.{Refusal}
 use Rattle.treasury_core.specs.declared.command.Answer.{Answer}
@@ -6,10 +6,11 @@ use Rattle.treasury_requests.specs.Request.{is_report}
 use Rattle.money_core.specs.Cause.{cause_number}
 use Rattle.treasury_api.specs.Replied.{IsAnsweredIn}
 use Rattle.treasury_api.specs.WebReply.{status_of, form_of_reply}
-use Rattle.treasury_api.specs.WebServing.{code_of}
+use Rattle.treasury_api.specs.WebServing.{code_of, entries_told, IsJsonRefusal}
 use Rattle.treasury_api.specs.Web.{IsBodyIn}
 use Rattle.treasury_api.proofs.OneRequestLemmas.{replied_done, replied_as}
-use Rattle.treasury_api.proofs.JsonLemmas.{done_body, refused_in_json, open_but_json, json_status}
+use Rattle.treasury_api.proofs.JsonLemmas.{done_body, entries_after, refused_in_json, open_but_json, json_status}
+use Rattle.treasury_api.proofs.JsonLemmas.{told_of}
 use Rattle.treasury_api.proofs.web.answering.answer_in_json.Goals as goal
 
 pub returns-in-Ok-clause-replies : goal.returns-in-Ok-clause-replies
@@ -21,13 +22,17 @@ returns-in-Ok-clause-replies g c =
     let none = c.new-text.ensures.items in
     subst (λ (xs : List ℕ). length text ≤ length xs + 64) none s in
     replied_done form.Json g.S.Store c.args.treasury.now c.answer.new.treasury text c.args.request.now
-    (IsBodyIn form.Json body) (λ (reply : Result Answer Refusal). 200 ≡ status_of reply) c.answer.result
+    (IsBodyIn form.Json body c.args.request.now) (λ (reply : Result Answer Refusal). 200 ≡ status_of reply)
+    c.answer.result
     c.in-Ok.field-0 c.in-Ok.is c.requires.days c.answer.ensures.database.shuts.clean
     (λ k f of. subst (λ (xs : List ℕ).
     IsAnsweredIn form.Json g.S.Store c.args.treasury.now.store.failed c.answer.new.treasury f c.args.request.now
     c.answer.result xs text) c.new-text.ensures.items (c.answer.ensures.replies k f of))
-    (λ f asked answer asks replies said.
-    done_body c.args.treasury.now.store.failed f c.args.request.now asked answer text body asks replies said
+    (λ f asked answer asks replies of said.
+    done_body c.args.treasury.now.store.failed f c.args.request.now asked answer
+    (entries_told c.answer.new.treasury.held c.args.request.now) text body asks replies
+    (entries_after g.S.Store c.answer.new.treasury f c.args.request.now c.args.treasury.now.store.failed asked answer
+    asks of) said
     c.done_in_json.ensures.report (λ other. c.done_in_json.ensures.other other (short other)))
     (λ answer. refl)
 
@@ -44,21 +49,26 @@ returns-in-Err-clause-replies g c =
     let text = c.answer.new.out.items in
     let body = c.refuse_in_json-object.result.text.items in
     replied_as form.Json g.S.Store c.args.treasury.now c.answer.new.treasury text c.args.request.now
-    (IsBodyIn form.Json body) (λ (reply : Result Answer Refusal). code_of c.status_of.result ≡ status_of reply)
+    (IsBodyIn form.Json body c.args.request.now)
+    (λ (reply : Result Answer Refusal). code_of c.status_of.result ≡ status_of reply)
     c.answer.result c.in-Err.refusal c.in-Err.is c.requires.days c.answer.ensures.database.shuts.clean
     (λ k f of. subst (λ (xs : List ℕ).
     IsAnsweredIn form.Json g.S.Store c.args.treasury.now.store.failed c.answer.new.treasury f c.args.request.now
     c.answer.result xs text) c.new-text.ensures.items (c.answer.ensures.replies k f of))
-    (λ f of. refused_in_json g.S.Store c.answer.new.treasury f (code_of c.status_of.result)
+    (λ f of. refused_in_json g.S.Store c.answer.new.treasury c.args.request.now f (code_of c.status_of.result)
     c.refuse_by-line.result.text.items body c.refuse_by-line.result.cause c.refuse_in_json-object.result.cause of
-    c.refuse_in_json-object.ensures c.status_of.ensures c.in-Err.refusal c.refuse_by-line.ensures)
+    (subst (λ (entries : Option ℕ). IsJsonRefusal c.refuse_by-line.result.text.items c.refuse_by-line.result.cause
+    entries c.refuse_in_json-object.result.cause body)
+    (told_of _ c.state-state.result c.answer.new.treasury.held c.args.request.now c.entries_told-entries.result
+    c.entries_told-entries.ensures c.state-state.ensures) c.refuse_in_json-object.ensures)
+    c.status_of.ensures c.in-Err.refusal c.refuse_by-line.ensures)
 
 pub returns-in-Err-clause-leaves : goal.returns-in-Err-clause-leaves
 returns-in-Err-clause-leaves g c = record {
   left = c.answer.ensures.left;
   open_but = λ clean is_open.
       open_but_json g.S.Store c.args.treasury.now c.answer.new.treasury c.answer.result c.in-Err.refusal
-      c.refuse_by-line.result.cause c.refuse_in_json-object.result.cause (code_of c.status_of.result)
+      c.refuse_by-line.result.cause c.refuse_in_json-object.result.cause _ (code_of c.status_of.result)
       c.refuse_by-line.result.text.items c.refuse_in_json-object.result.text.items c.in-Err.is
       c.refuse_by-line.ensures c.refuse_in_json-object.ensures c.status_of.ensures is_open
       c.answer.ensures.refuses.fails (λ failed. (c.answer.ensures.closed failed).1)

@@ -8,7 +8,7 @@ pub returns-clause-ok : goal.returns-clause-ok
 returns-clause-ok c =
     subst (λ (t : List ℕ). OnOk c.push_refusal.result (c.push_refusal.new.out.items ≡ c.args.out.now.items ++ t))
     (refused_as c.args.line.now c.as_bytes-nr.result.now c.as_bytes-name.result.now c.as_bytes-said.result.now
-    c.args.told.now c.args.cause
+    c.args.told.now c.args.cause c.args.entries
     (c.as_bytes-nr.ensures.value ∙ (c.format.ensures.text ∙ ap decimal c.nr.ensures))
     (c.as_bytes-name.ensures.value ∙ c.name.ensures) (c.as_bytes-said.ensures.value ∙ c.sentence.ensures))
     c.push_refusal.ensures.ok
@@ -17,7 +17,7 @@ pub returns-clause-room : goal.returns-clause-room
 returns-clause-room c short none fits =
     c.push_refusal.ensures.room
     (refused_fits c.args.line.now c.as_bytes-nr.result.now c.as_bytes-name.result.now c.as_bytes-said.result.now
-    c.args.told.now c.args.cause (length c.args.out.now.items) _
+    c.args.told.now c.args.cause c.args.entries (length c.args.out.now.items) _
     (c.as_bytes-nr.ensures.value ∙ (c.format.ensures.text ∙ ap decimal c.nr.ensures))
     (c.as_bytes-name.ensures.value ∙ c.name.ensures) (c.as_bytes-said.ensures.value ∙ c.sentence.ensures) short none
-    fits)
+    c.push_refusal.ensures.digits fits)

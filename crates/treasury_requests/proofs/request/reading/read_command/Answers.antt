@@ -9,5 +9,5 @@ pub returns-in-Ok-request_of-clause-ok : goal.returns-in-Ok-request_of-clause-ok
 returns-in-Ok-request_of-clause-ok c =
     spelled-utf8 c.args.text.now c.utf8.text ∙ ap (option_and_then request_of) c.in-Ok.ensures.ok ∙ sym
     c.in-Some.ensures.value ∙ sym (ap (λ (r : Request).
-    let said : Spelled = record { request = r; is_dry_run = c.in-Some.spelled.is_dry_run } in Some said)
+    let said : Spelled = record { request = r; terms = c.in-Some.spelled.terms } in Some said)
     c.in-Ok-request_of.ensures.equal)
