@@ -36,7 +36,7 @@ def main(url, *words, cut=False):
             status, answer = ask(url, "POST", "/commands", request, cut)
         except (OSError, http.client.HTTPException) as error:
             status, answer = 503, f"{error}\n"
-        if status not in (502, 503, 504):
+        if status not in (429, 502, 503, 504):
             print(answer, end="")
             return 0 if status == 200 else 1
         print(f"{answer.rstrip()}; again in {wait} s", file=sys.stderr)
