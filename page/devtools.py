@@ -8,6 +8,8 @@ import subprocess
 import threading
 import time
 
+# Seconds by the clock after which what does not come is a fault; a busy machine takes minutes
+PATIENCE = 900
 NAMES = ("chromium", "chromium-browser", "google-chrome", "google-chrome-stable", "chrome")
 
 
@@ -55,7 +57,7 @@ class Browser:
                     elif message.get("sessionId") in self.tabs:
                         self.tabs[message["sessionId"]].heard(message["method"], message["params"])
 
-    def call(self, method, session=None, seconds=120, **values):
+    def call(self, method, session=None, seconds=PATIENCE, **values):
         """Calls the browser, or the tab of a session, and returns the result."""
         answer = queue.Queue()
         with self.lock:
@@ -136,7 +138,7 @@ class Tab:
         self.call("Page.reload")
         self.until(lambda: self.loads > loads, "the page is loaded again")
 
-    def until(self, holds, what, seconds=120):
+    def until(self, holds, what, seconds=PATIENCE):
         """Waits until something holds."""
         ends = time.monotonic() + seconds
         while not holds():

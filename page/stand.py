@@ -13,6 +13,8 @@ import time
 import urllib.error
 import urllib.request
 
+from devtools import PATIENCE
+
 TOP = pathlib.Path(__file__).resolve().parent.parent
 SITE = "treasury.example.org"
 NEEDED = ("nginx", "openssl")
@@ -32,9 +34,10 @@ def free_port():
 
 def wait_for(port):
     """Waits until something listens on a port."""
-    for _ in range(200):
+    ends = time.monotonic() + PATIENCE
+    while time.monotonic() < ends:
         try:
-            socket.create_connection(("127.0.0.1", port), 1).close()
+            socket.create_connection(("127.0.0.1", port), PATIENCE).close()
             return
         except OSError:
             time.sleep(0.05)
@@ -197,7 +200,7 @@ class Stand:
         """Asks the treasury itself, past nginx and the page; returns the status and the text."""
         data = json.dumps(request).encode() if request else None
         try:
-            with urllib.request.urlopen(f"http://127.0.0.1:{self.back}{path}", data, 120) as reply:
+            with urllib.request.urlopen(f"http://127.0.0.1:{self.back}{path}", data, PATIENCE) as reply:
                 return reply.status, reply.read().decode()
         except urllib.error.HTTPError as error:
             return error.code, error.read().decode()
@@ -217,7 +220,7 @@ class Stand:
         import base64
         import ssl
         context = ssl._create_unverified_context()
-        connection = http.client.HTTPSConnection("127.0.0.1", self.tls, context=context, timeout=30)
+        connection = http.client.HTTPSConnection("127.0.0.1", self.tls, context=context, timeout=PATIENCE)
         sent = {"Host": f"{SITE}:{self.tls}", **{key.replace("_", "-"): value for key, value in headers.items()}}
         if name:
             sent["Authorization"] = "Basic " + base64.b64encode(f"{name}:secret".encode()).decode()
