@@ -7,7 +7,6 @@ import shutil
 import sqlite3
 import subprocess
 import tempfile
-import types
 
 import shared
 
@@ -62,8 +61,8 @@ class Command:
     """A command over t.db: what it is answered, and answered again; what the folder has before it, and the tables
     before it and after. Those before it may be there in version 1 or, once they were opened, in version 2."""
 
-    def __init__(self, title, step):
-        self.words, self.answer = shlex.split(step.text)[1:], "".join(line + "\n" for line in step.answer)
+    def __init__(self, title, text, answer):
+        self.words, self.answer = shlex.split(text)[1:], "".join(f"{line}\n" for line in answer)
         self.title = f"{title}: {' '.join(self.words)}"
         self.status = int(self.answer.startswith("refused "))
         self.again = repeated(self.words, self.answer)
@@ -161,7 +160,7 @@ def tables_with_log(folder):
 def opening(program, place, name, text, answer):
     """Returns a command that opens a database of version 1."""
     put(place, {"t.db": (shared.TOP / f"cases/data/{name}.db").read_bytes()})
-    command = Command(f"an opening of {name}", types.SimpleNamespace(text=text, answer=answer))
+    command = Command(f"an opening of {name}", text, answer)
     command.run(program, place)
     return command
 
@@ -169,16 +168,15 @@ def opening(program, place, name, text, answer):
 def commands(program, place):
     """Returns the commands of the rows, each once, and the openings."""
     found, met = [], set()
-    for session in shared.loaded("sessions").sessions_of(f"{shared.TOP}/faults/rows.session"):
+    for session in shared.sessions_of("rows.session"):
         put(f"{place}/row", {})
         for step in session.steps:
-            if isinstance(step, tuple):
-                with open(f"{place}/row/{step[0]}", "w", encoding="utf-8") as file:
-                    file.write("".join(line + "\n" for line in step[1]))
+            if hasattr(step, "write"):
+                step.write(f"{place}/row")
                 continue
-            command = Command(session.title, step)
+            command = Command(session.title, step.text, [line for _, line in step.answer])
             command.run(program, f"{place}/row")
-            if id(step) not in met:
+            if step.place not in met:
                 found.append(command)
-            met.add(id(step))
+            met.add(step.place)
     return found + [opening(program, f"{place}/row", name, *one) for name, those in OPENINGS.items() for one in those]

@@ -19,12 +19,25 @@ NO_MEMORY = "refused 40 OutOfMemory\n"
 SECONDS = 60
 
 
-def loaded(name):
-    """Returns a script of .ci as a module, for how it reads its files."""
-    loader = importlib.machinery.SourceFileLoader(name, str(TOP / ".ci" / name))
-    module = importlib.util.module_from_spec(importlib.util.spec_from_loader(name, loader))
+def sessions_of(name):
+    """Returns the sessions or the cases of a file beside this one, as .ci/cases reads them."""
+    loader = importlib.machinery.SourceFileLoader("cases", str(TOP / ".ci" / "cases"))
+    module = importlib.util.module_from_spec(importlib.util.spec_from_loader("cases", loader))
     loader.exec_module(module)
-    return module
+    return module.read(str(TOP / "faults" / name))
+
+
+class Row:
+    """A case of rows.cases: what is sent, each line by itself, and the lines of its answers."""
+
+    def __init__(self, case):
+        self.title, self.sent = case.title, case.steps[0].requests()
+        self.wanted = [f"{line}\n".encode() for _, line in case.steps[0].answer]
+
+
+def rows():
+    """Returns the rows of rows.cases."""
+    return [Row(case) for case in sessions_of("rows.cases")]
 
 
 def program():
