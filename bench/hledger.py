@@ -19,7 +19,7 @@ def is_here():
 
 def ask(journal, *words):
     ran = subprocess.run(["hledger", "-f-", *words], input=journal.encode(), stdout=subprocess.PIPE,
-        stderr=subprocess.STDOUT, timeout=60,
+        stderr=subprocess.STDOUT, timeout=900,
                          env=dict(os.environ, LC_ALL="C.UTF-8"))
     return ran.returncode, ran.stdout.decode(errors="replace")
 

@@ -16,7 +16,8 @@ sys.dont_write_bytecode = True
 # So many calls in a row are all from one on.
 ALL = 10**9
 NO_MEMORY = "refused 40 OutOfMemory\n"
-SECONDS = 60
+# Seconds by the clock after which a program that has not ended is at fault; a busy machine takes minutes
+SECONDS = 900
 
 
 def sessions_of(name):
