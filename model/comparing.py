@@ -19,9 +19,10 @@ import tempfile
 import time
 from urllib.parse import quote, urlencode
 
-from model.http import BRANCH_COMMANDS, PATHS
+from model.http import PATHS
 from model.json_replies import without_said
 from model.random_texts import ODD, TOP
+from model.requests import BRANCH_COMMANDS
 from model.treasury import Treasury
 
 SECONDS, MANY, NO_LIMIT = 60, 2**32 - 1, resource.RLIM_INFINITY

@@ -5,7 +5,7 @@ from collections import namedtuple
 
 from model.json_replies import asks_for_json, body_of
 from model.refusals import Refused, refuse_if
-from model.requests import read_day, read_request
+from model.requests import BRANCH_COMMANDS, read_day, read_request
 
 TEXT, FORBIDDEN = "text/plain; charset=utf-8", ("403 Forbidden", "forbidden\n")
 MAX_HEAD, MAX_HEADERS, MAX_BODY = 16_384, 32, 8_388_608
@@ -29,8 +29,6 @@ PATHS = {
     "transfers": ["day"],
     "transit": ["day"],
 }
-# The commands of a branch, and the key whose value is the branch
-BRANCH_COMMANDS = {"import": "branch", "dispatch": "from", "receive": "branch", "lock": "branch", "close": "branch"}
 COMMANDS_OF = re.compile("/commands/([^/]+)", re.S)
 BAD_ESCAPE = re.compile(r"%(?![0-9A-Fa-f]{2})")
 ESCAPE = re.compile(rb"%(..)")
@@ -181,18 +179,26 @@ def status_of(number):
     return {43: "500 Internal Server Error", 44: "400 Bad Request"}.get(number, "409 Conflict")
 
 
-def outcome(treasury, head, data):
-    """FORMATS, "HTTP": what comes of a request with that head, as `perform` of `Treasury` answers it."""
+def request_of(head, data):
+    """FORMATS, "HTTP": the keys of the request that is asked for (44), if there is such a route."""
     path = head.target.partition("?")[0]
     branch = COMMANDS_OF.fullmatch(path)
+    if (head.method, path) == ("POST", "/commands"):
+        return read_request(read_body(head, data))
+    if head.method == "POST" and branch:
+        return command_of(branch[1], read_body(head, data))
+    return report_asked(head)
+
+
+def outcome(treasury, head, data):
+    """FORMATS, "HTTP": what comes of a request with that head, as `perform` of `Treasury` answers it; and how many
+    entries its branch has, if it is a dry run."""
     try:
-        if (head.method, path) == ("POST", "/commands"):
-            return treasury.outcome(read_body(head, data))
-        if head.method == "POST" and branch:
-            return treasury.perform(command_of(branch[1], read_body(head, data)))
-        return treasury.perform(report_asked(head))
+        keys = request_of(head, data)
     except Refused as refused:
-        return refused.number, refused.answer(), None
+        return refused.number, refused.answer(), None, None
+    book = treasury.branch_of(keys) if keys.get("dry-run") == "yes" else None
+    return (*treasury.perform(keys), len(book.entries) if book else None)
 
 
 def answer(treasury, data):

@@ -13,7 +13,7 @@ with open(os.path.join(TOP, "docs", "RULES.md"), encoding="utf-8") as page:
 NO_WEIGHT = re.compile(rb"[qQ]=0(?:\.0{0,3})?")
 STRING = rb'"(?:[^"\\\x00-\x1f]|\\["\\]|\\u00[01][0-9a-f])*"'
 LIST = rb"\[((?:%b(?:,%b)*)?)\]" % (STRING, STRING)
-SAID = re.compile(rb'"told":%b,"notes":%b\}\n\Z' % (LIST, LIST))
+SAID = re.compile(rb'"told":%b,"notes":%b(|,"entries":"[0-9]+")\}\n\Z' % (LIST, LIST))
 
 
 def asks_for_json(accepted):
@@ -28,14 +28,17 @@ def string(text):
     return '"' + re.sub("[\x00-\x1f]", lambda it: f"\\u{ord(it[0]):04x}", text) + '"'
 
 
-def body_of(number, text, rows):
-    """FORMATS, "Replies in JSON": the body of a reply. What is told and noted is not modelled: the lists are empty."""
+def body_of(number, text, rows, entries):
+    """FORMATS, "Replies in JSON": the body of a reply; `entries` is None, unless it is that of a dry run whose branch
+    there is. What is told and noted is not modelled: the lists are empty."""
     if rows is not None:
         return '{"lines":[%s]}\n' % ",".join("[" + ",".join(map(string, row)) + "]" for row in rows)
     said = {"answer": text[:-1]}
     if number:
         said.update(number=str(number), name=NAMES[number], sentence=SENTENCES[str(number)])
-    return "{%s" % "".join(f"{string(key)}:{string(value)}," for key, value in said.items()) + '"told":[],"notes":[]}\n'
+    before = "".join(f"{string(key)}:{string(value)}," for key, value in said.items())
+    behind = "" if entries is None else f',"entries":"{entries}"'
+    return f'{{{before}"told":[],"notes":[]{behind}}}\n'
 
 
 def without_said(reply):
@@ -50,4 +53,4 @@ def without_said(reply):
         return reply
     fewer = len(found[1]) + len(found[2])
     head = re.sub(rb"(?<=\r\nContent-Length: )[0-9]+", lambda it: b"%d" % (int(it[0]) - fewer), head)
-    return head + gap + body[: found.start()] + b'"told":[],"notes":[]}\n'
+    return head + gap + body[: found.start()] + b'"told":[],"notes":[]%b}\n' % found[3]

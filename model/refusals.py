@@ -7,7 +7,7 @@ NAMES = {
     22: "CommodityExists", 23: "Full", 24: "MarkClash", 25: "ReservedMark", 26: "ReservedAccount", 27: "Locked",
     28: "Limit", 29: "ClaimFailed", 30: "SameBranch", 31: "UnknownTransfer", 32: "WrongBranch",
     33: "AlreadyReceived", 34: "TooEarly", 35: "LockBack", 36: "NothingToClose", 37: "BadAccount", 38: "BadAmount",
-    39: "BadId", 43: "Damaged", 44: "Request", 45: "ReadFault", 47: "TooMuch",
+    39: "BadId", 43: "Damaged", 44: "Request", 45: "ReadFault", 47: "TooMuch", 48: "Changed",
 }  # fmt: skip
 
 

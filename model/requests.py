@@ -11,11 +11,11 @@ from model.refusals import Refused, refuse_if
 COMMANDS = {
     "branch": (["name"], ["dry-run"]),
     "commodity": (["sample"], ["dry-run"]),
-    "import": (["branch", "journal"], ["dry-run"]),
-    "dispatch": (["id", "from", "to", "day", "amount", "account"], ["dry-run"]),
-    "receive": (["id", "branch", "day", "account"], ["part", "amount", "dry-run"]),
-    "lock": (["branch", "day"], ["dry-run"]),
-    "close": (["branch", "day"], ["accounts", "into", "dry-run"]),
+    "import": (["branch", "journal"], ["dry-run", "if-entries"]),
+    "dispatch": (["id", "from", "to", "day", "amount", "account"], ["dry-run", "if-entries"]),
+    "receive": (["id", "branch", "day", "account"], ["part", "amount", "dry-run", "if-entries"]),
+    "lock": (["branch", "day"], ["dry-run", "if-entries"]),
+    "close": (["branch", "day"], ["accounts", "into", "dry-run", "if-entries"]),
 }
 REPORTS = {
     "branches": ([], []),
@@ -28,6 +28,9 @@ REPORTS = {
     "journal": (["branch"], []),
 }
 KEYS = {**COMMANDS, **REPORTS}
+# The commands of a branch, and the key whose value is the branch
+BRANCH_COMMANDS = {"import": "branch", "dispatch": "from", "receive": "branch", "lock": "branch", "close": "branch"}
+COUNT = re.compile("[0-9]{1,5}")
 MAX_NESTING = 127
 JSON_TEXTS = re.compile(r'"(?:[^"\\]|\\.)*"', re.S)
 WHOLE_PAIRS = re.compile(r"\\\\|\\u[dD][89abAB][0-9a-fA-F]{2}\\u[dD][c-fC-F][0-9a-fA-F]{2}")
@@ -73,7 +76,12 @@ def is_request(keys):
     if needed is None or not set(needed) <= set(keys) <= {"do", *needed, *further}:
         return False
     is_half = keys["do"] == "receive" and ("part" in keys) != ("amount" in keys)
-    return not is_half and keys.get("dry-run", "no") in ("yes", "no")
+    return not is_half and keys.get("dry-run", "no") in ("yes", "no") and is_count(keys)
+
+
+def is_count(keys):
+    """RULES, "Conditional commands": whether `if-entries` is a count, if it is there."""
+    return bool(COUNT.fullmatch(keys.get("if-entries", "0")))
 
 
 def read_day(keys):

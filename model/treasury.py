@@ -19,7 +19,7 @@ from model.amounts import declare_commodity, read_amount
 from model.books import Book, import_journal
 from model.closing import close
 from model.refusals import Refused, Repeated, refuse_if
-from model.requests import read_request, REPORTS
+from model.requests import BRANCH_COMMANDS, read_request, REPORTS
 
 BRANCH_NAME = re.compile("[a-z][a-z0-9-]{0,31}")
 MAX_BRANCHES = 32
@@ -63,6 +63,7 @@ class Treasury:
             if keys["do"] in REPORTS:
                 rows = getattr(reports, keys["do"] + "_report")(self, keys)
                 return None, "".join(reports.report_lines(keys["do"], rows)), rows
+            refuse_if(self.is_changed(keys), 48)
             return 0, getattr(self, "do_" + keys["do"])(keys), None
         except Repeated:
             return 0, "repeated\n", None
@@ -72,6 +73,20 @@ class Treasury:
     def dry_run(self, keys):
         """RULES, "Dry run": what the command would be answered now; it is performed on a copy, so nothing changes."""
         return self.copy().perform({**keys, "dry-run": "no"})
+
+    def is_changed(self, keys):
+        """RULES, "Conditional commands": whether a command would do something, and its branch has another number of
+        entries than it is bound to."""
+        if "if-entries" not in keys:
+            return False
+        without = {key: value for key, value in keys.items() if key != "if-entries"}
+        line = self.copy().perform(without)[1]
+        does_something = line.startswith("ok") and not line.startswith("ok 0 new")
+        return does_something and len(self.branch_of(keys).entries) != int(keys["if-entries"])
+
+    def branch_of(self, keys):
+        """RULES, "Conditional commands": the book that a command of a branch is bound to, or None."""
+        return self.books.get(keys.get(BRANCH_COMMANDS.get(keys["do"])))
 
     def find_book(self, name):
         """RULES, "Branches": the branch of that name (20)."""

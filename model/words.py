@@ -1,7 +1,7 @@
 """Command lines: RULES, "The program"."""
 
 from model.refusals import Refused, refuse_if
-from model.requests import KEYS, read_day
+from model.requests import KEYS, is_count, read_day
 
 # What stands in a command line without an option's name, by command
 POSITIONAL = {"branch": "name", "commodity": "sample", "import": "journal"}
@@ -49,6 +49,7 @@ def command(treasury, words, files):
     try:
         refuse_if(("part" in keys) != ("amount" in keys) and keys["do"] == "receive", 44)
         keys = read_day(keys)
+        refuse_if(not is_count(keys), 44)
         if keys["do"] == "import":
             refuse_if(keys["journal"] not in files, 45)
             keys["journal"] = files[keys["journal"]].decode("utf-8", "surrogateescape")
