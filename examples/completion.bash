@@ -8,16 +8,16 @@ _treasury_options() {
     branches) echo --db --at --help ;;
     commodity) echo --db --at --dry-run --help ;;
     commodities) echo --db --at --help ;;
-    import) echo --db --at --branch --dry-run --help ;;
+    import) echo --db --at --branch --dry-run --if-entries --help ;;
     accounts) echo --db --at --branch --help ;;
     balance) echo --db --at --branch --day --help ;;
     register) echo --db --at --branch --account --tag --help ;;
-    dispatch) echo --db --at --id --from --to --day --amount --account --dry-run --help ;;
-    receive) echo --db --at --id --branch --day --account --part --amount --dry-run --help ;;
+    dispatch) echo --db --at --id --from --to --day --amount --account --dry-run --if-entries --help ;;
+    receive) echo --db --at --id --branch --day --account --part --amount --dry-run --if-entries --help ;;
     transfers) echo --db --at --day --help ;;
     transit) echo --db --at --day --help ;;
-    lock) echo --db --at --branch --day --dry-run --help ;;
-    close) echo --db --at --branch --day --accounts --into --dry-run --help ;;
+    lock) echo --db --at --branch --day --dry-run --if-entries --help ;;
+    close) echo --db --at --branch --day --accounts --into --dry-run --if-entries --help ;;
     journal) echo --db --at --branch --help ;;
     serve) echo --db --port --requests --help ;;
     run) echo --explain --help ;;
@@ -38,7 +38,7 @@ _treasury() {
     else
         case $before in
         --branch | --id | --from | --to | --day | --amount | --account | --tag | --accounts | --into) ;;
-        --part | --at | --port | --requests) ;;
+        --part | --at | --port | --requests | --if-entries) ;;
         *) mapfile -t COMPREPLY < <(compgen -f -- "$at") ;;
         esac
     fi

@@ -57,3 +57,8 @@ end
 for name in branch commodity import dispatch receive lock close
     complete -c treasury -n "__treasury_has $name" -l dry-run
 end
+
+# The commands that depend on a count of entries
+for name in import dispatch receive lock close
+    complete -c treasury -n "__treasury_has $name" -l if-entries -x
+end

@@ -23,9 +23,10 @@ local -a rows=(
     "run explain: Answers the requests on standard input, in memory alone"
     "help: Print this message or the help of the given subcommand(s)"
 )
-# The commands that are over a file alone, and run; those that have a dry run
+# The commands that are over a file alone, and run; those that have a dry run; those that depend on a count of entries
 local -a alone=(init serve run help)
 local -a dry_runs=(branch commodity import dispatch receive lock close)
+local -a conditional=(import dispatch receive lock close)
 local -a commands
 local -A options
 local row name
@@ -35,6 +36,7 @@ for row in $rows; do
     options[$name]="${${row%%: *}#$name} help"
     if (( ! $alone[(Ie)$name] )); then options[$name]+=" at"; fi
     if (( $dry_runs[(Ie)$name] )); then options[$name]+=" dry-run"; fi
+    if (( $conditional[(Ie)$name] )); then options[$name]+=" if-entries"; fi
 done
 
 if (( CURRENT == 2 )) && [[ $PREFIX == -* ]]; then
@@ -45,6 +47,6 @@ elif [[ $PREFIX == -* ]]; then
     compadd -- --${^${=options[$words[2]]}}
 elif [[ $words[CURRENT-1] == --db ]]; then
     _files
-elif [[ $words[2] == import && $words[CURRENT-1] != --(at|branch) ]]; then
+elif [[ $words[2] == import && $words[CURRENT-1] != --(at|branch|if-entries) ]]; then
     _files
 fi
