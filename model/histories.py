@@ -15,7 +15,7 @@ from model.random_texts import (
     LIMITS, ODD, STORIES, amount, bad_amount, day_text, forms, header, odd, odd_call, odd_json, odd_line,
     odd_posting, posting, price, spelled,
 )
-from model.requests import REPORTS
+from model.requests import BRANCH_COMMANDS, is_count, REPORTS
 from model.treasury import Treasury
 
 FIRST_DAY, LAST_DAY = 19723, 2932896  # 2024-01-01 and 9999-12-31
@@ -26,7 +26,7 @@ DRY = {None: "", "yes": "dry run of ", "no": "no dry run of "}
 # The kinds of history: how many branches and commodities they begin with, and what they ask for how often
 KINDS = {
     "plain": (3, 3, "enter*9 branch commodity dispatch*4 receive*6 lock close*2 report*4 again*3 nearly*3 form*2 json "
-              "call*2 returned"),
+              "call*2 returned counts"),
     "assertions": (2, 3, "enter*9 statement*9 dispatch*3 receive*6 report*2 again nearly"),
     "parts": (11, 2, "dispatch*4 receive*14 parts lock again*2 nearly*4 report*2 enter"),
     "closings": (2, 3, "enter*6 close*6 closings lock again nearly*2 report*2 dispatch receive returned"),
@@ -65,16 +65,24 @@ class History:
 
     def ask(self, request, situation=None, expected=None):
         """Asks for something, and counts what came of it; a situation only if it came as expected. Now and then it is
-        asked for as a dry run first, or with a value of that key that is refused, which changes nothing."""
+        asked for as a dry run first, or with a value of that key that is refused, which changes nothing; or by another
+        number of entries, which changes nothing either, or by the right one, which makes no difference."""
         keys = {"do": "line", "dry-run": None} if isinstance(request, bytes) else request
         if "dry-run" not in keys and self.chance(0.12):
             self.ask({**keys, "dry-run": "yes" if self.chance(0.9) else odd(self.rng, "dry_runs")})
+        if keys.get("do") in BRANCH_COMMANDS and "if-entries" not in keys and self.chance(0.12):
+            bound = {**keys, "if-entries": self.entries(keys)}
+            if is_count(bound) and int(bound["if-entries"]) == self.held(keys):
+                keys = request = bound
+            else:
+                self.ask(bound)
         line = spelled(self.rng, request) if keys is request else request
         answer = self.treasury.answer(line)
         kind = kind_of(answer)
         self.steps.append((request, line))
         self.answers.append(answer)
-        self.reached[f"{DRY.get(keys.get('dry-run'), 'odd dry run of ')}{keys.get('do')} {kind}"] += 1
+        form = DRY.get(keys.get("dry-run"), "odd dry run of ") if is_count(keys) else "odd count of "
+        self.reached[f"{form}{keys.get('do')} {kind}"] += 1
         if situation and kind == expected:
             self.reached[situation] += 1
         if kind == "refused 29" and keys is request:
@@ -88,6 +96,20 @@ class History:
         """Looks at what is held."""
         self.names = list(self.treasury.books)
         self.units = [(unit, *style) for unit, style in enumerate(self.treasury.styles)]
+
+    def held(self, request):
+        """How many entries the branch has that a command is of."""
+        book = self.treasury.branch_of(request)
+        return len(book.entries) if book else 0
+
+    def entries(self, request):
+        """A number for `if-entries`: that of the branch, a near one, that of another branch, or a text that is none."""
+        rng, count = self.rng, self.held(request)
+        if self.chance(0.08):
+            return odd(rng, "counts", count=str(count))
+        other = len(self.treasury.books[self.branch_name()].entries)
+        count = max(0, rng.choice((count, count, count, count + 1, count - 1, count + 10, other)))
+        return rng.choice(("{}", "{}", "{}", "{:02}", "{:05}")).format(count)
 
     def chance(self, share):
         return self.rng.random() < share
@@ -295,10 +317,12 @@ class History:
         request = {key: self.spoil(key, value, share) for key, value in request.items()}
         if self.chance(0.08):
             request["dry-run"] = self.rng.choice(("yes", "no"))
+        if request["do"] in BRANCH_COMMANDS and self.chance(0.08):
+            request["if-entries"] = self.entries(request)
         if len(request) > 1 and self.chance(0.01):
             request.pop(self.rng.choice(list(request)))
         elif self.chance(0.01):
-            request[self.rng.choice(("more", "part", "amount", "into", "tag"))] = "x"
+            request[self.rng.choice(("more", "part", "amount", "into", "tag", "if-entries"))] = "0"
         return request
 
     def sent(self, letter="t", **changed):
@@ -348,16 +372,31 @@ class History:
         names = {"source": source, "target": target, "id": self.fresh("G"), "journal": text, "large": large}
         self.tell("large", day, {}, **{name: json.dumps(value)[1:-1] for name, value in names.items()})
 
+    def counts(self):
+        """Each command of two branches by the number of their entries, which changes in between."""
+        (source, target), own = self.rng.sample(self.names, 2), self.fresh("expenses:own")
+        day = max(self.locked(it) or FIRST_DAY for it in (source, target)) + 3
+        first, second = (f"{self.text(day)} {self.fresh('n')}\n    {own}  {amount(self.rng, self.unit(), quantity)}\n"
+                         for quantity in (self.quantity() + 1, 1))
+        whole = self.rng.randrange(30, 10**4)
+        parts = {"all": whole, "third": whole // 3}
+        names = {"source": source, "target": target, "id": self.fresh("N"), "own": own, "bad": second,
+                 "journal": json.dumps(first + "    a:x\n")[1:-1], "second": second + "    a:x\n"}
+        self.tell("counts", day, parts, **names)
+
     def tell(self, title, day, quantities, **names):
         """Goes through a story of model/stories."""
         coins, rng = collections.defaultdict(lambda: self.chance(0.5)), self.rng
         units, quantities, is_first = rng.sample(self.units, 2), {"zero": 0, **quantities}, True
+        counts = {name: len(book.entries) for name, book in self.treasury.books.items()}
 
         def named(text):
             return re.sub("<([a-z]+)>", lambda it: named(names[it[1]]) if it[1] in names else it[0], text)
 
         def valued(found):
             other, name, more = found[1], found[2], int(found[3] or 0)
+            if name in ("entries", "others"):
+                return str(counts[names["target" if name == "entries" else "source"]] + more)
             return self.text(day + more) if name == "day" else amount(rng, units[bool(other)], quantities[name] + more)
 
         for line in filter(None, STORIES[title]) if day < LAST_DAY - 90 else ():
@@ -440,6 +479,7 @@ class History:
         value = {
             "day": lambda: self.text(self.day()), "amount": lambda: amount(rng, self.unit(), self.quantity()),
             "part": lambda: rng.choice(("p1", "one", self.fresh("p"))), "into": self.account, "account": self.account,
+            "if-entries": lambda: self.entries(request),
             "accounts": lambda: request["accounts"] + rng.choice((";", ";x", "x")),
             "journal": lambda: request["journal"].replace("hall", "Hall", 1).replace("1", "2", rng.randrange(2)),
         }.get(key, self.branch_name)
