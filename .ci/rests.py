@@ -307,8 +307,8 @@ class Sources:
     def leads(self, text):
         """Returns the texts that one leads to in a step."""
         if text not in self.led:
-            of = [it for name in text.names for crate in self.seen[text.crate] for it in self.named[crate].get(name, ())]
-            self.led[text] = [*text.beside, *of]
+            seen = [self.named[crate] for crate in self.seen[text.crate]]
+            self.led[text] = text.beside + [it for name in text.names for named in seen for it in named.get(name, ())]
         return self.led[text]
 
     def behind(self, starts):

@@ -35,7 +35,14 @@ module _ (x : ℕ) where
   unfolding doubled
   doubled_again = refl
 """,
-    "bottom/src/lib.rt": "#![tactic(auto)]\n\nmod purse;\nmod sum;\n\npub use purse::{Price, Purse};\npub use sum::{sum_of, twice};\n",
+    "bottom/src/lib.rt": """#![tactic(auto)]
+
+mod purse;
+mod sum;
+
+pub use purse::{Price, Purse};
+pub use sum::{sum_of, twice};
+""",
     "bottom/src/purse.rt": """//! Purses.
 
 ghost use Rattle.std.specs.Prelude.{List, ℕ};
