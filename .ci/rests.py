@@ -17,14 +17,13 @@ from judging import end_of, plain, read
 
 NAME = re.compile(r"[^\W\d][\w']*(?:-[\w']+)*")
 STRING = r'"(?:\\.|[^"\\])*"'
-OTHERS = rf"|{NAME.pattern}|\d[\w.]*|\S"
+# The tokens of a source and of a statement; what is no group is a comment.
 RATTLE = re.compile(
-    rf"//[^\n]*|/\*.*?\*/|b?r(#*)\".*?\"\1|b?{STRING}"
-    rf"|b?'(?:\\(?:u\{{[^}}]*\}}|x..|.)|[^'\\\n])'|'[a-z_]\w*\b(?!'){OTHERS}",
+    rf"""//[^\n]*|/\*.*?\*/|((?!b?r#*"|b?["']){NAME.pattern}|b?r".*?"|b?r\#".*?"\#|b?r\#\#".*?"\#\#|b?{STRING}"""
+    rf"""|b?'(?:\\(?:u\{{[^}}]*\}}|x..|.)|[^'\\\n])'|'[a-z_]\w*\b(?!')|{NAME.pattern}|\d[\w.]*|\S)""",
     re.S,
 )
-ANTT = re.compile(rf"{NAME.pattern}|--[^\n]*|\{{-.*?-\}}|{STRING}{OTHERS}", re.S)
-COMMENTS = {RATTLE: ("//", "/*"), ANTT: ("--", "{-")}
+ANTT = re.compile(rf"--[^\n]*|\{{-.*?-\}}|({NAME.pattern}|{STRING}|\d[\w.]*|\S)", re.S)
 OF_A_PROOF = ("/Answers.antt", "/Invariants.antt", "/Proof.antt")
 DEPTH = {**dict.fromkeys("([{", 1), **dict.fromkeys(")]}", -1)}
 # The kinds of the items of a source: what ends one, and which have a name that others lead to.
@@ -69,33 +68,33 @@ def begin_of(function, lines):
     return first
 
 
-def tokens_of(text, form):
-    """Returns the tokens of a text, each with the number of its line; comments and white space are none."""
+def tokens_of(text):
+    """Returns the tokens of a source, each with the number of its line; comments and white space are none."""
     found, line, place = [], 0, 0
-    for it in form.finditer(text):
+    for it in RATTLE.finditer(text):
         line, place = line + text.count("\n", place, it.start()), it.start()
-        if not it[0].startswith(COMMENTS[form]):
-            found.append((it[0], line))
+        if it[1]:
+            found.append((it[1], line))
     return found
 
 
 def words_of(lines, form):
     """Returns the tokens of some lines."""
-    return [it[0] for it in form.finditer("\n".join(lines)) if not it[0].startswith(COMMENTS[form])]
+    return [it for it in form.findall("\n".join(lines)) if it]
 
 
 def leading(words, scope):
     """Returns the names among tokens that can be those of texts: what their file brings in or defines, what stands in a
     path, a method that is called, and a macro. What has another name is a variable or a field."""
     imports, defined = scope
-    found, brings_all = set(), "*" in imports
-    for n, word in enumerate(words):
-        if NAME.fullmatch(word):
-            before, behind = words[max(n - 2, 0) : n], words[n + 1 : n + 3]
-            is_called = before[-1:] == ["."] and (behind[:1] == ["("] or behind == [":", ":"])
-            is_in_path = before == [":", ":"] or before[-1:] == ["."] and before[0] in imports
-            if word in imports or word in defined or is_called or is_in_path or behind[:1] == ["!"] or brings_all:
-                found.add(word)
+    if "*" in imports:
+        return {*filter(NAME.fullmatch, words)}
+    found = {it for it in {*words} if (it in imports or it in defined) and NAME.fullmatch(it)}
+    for before, dot, word, *behind in zip(["", "", *words], ["", *words], words, [*words[1:], ""], [*words[2:], "", ""]):
+        is_called = dot == "." and (behind[0] == "(" or behind == [":", ":"])
+        is_in_path = dot == before == ":" or dot == "." and before in imports
+        if (is_called or is_in_path or behind[0] == "!") and NAME.fullmatch(word):
+            found.add(word)
     return found
 
 
@@ -268,7 +267,7 @@ class Sources:
     def read_source(self, crate, file, functions, proofs):
         """Takes the items of a file, and returns its impls."""
         lines = read(file).split("\n")
-        tokens, imports = without_imports(tokens_of("\n".join(lines), RATTLE))
+        tokens, imports = without_imports(tokens_of("\n".join(lines)))
         spans = [(begin_of(it, lines), it) for it in functions]
         is_taken = {n for first, it in spans for n in range(first, it.closes + 1)}
         items = [Item(*it) for it in items_of([it for it in tokens if it[1] not in is_taken])]
