@@ -1,0 +1,77 @@
+// ---------- Which view is shown: it stands in the address, behind the # ----------
+
+// The views, in the order of the menu: each with its group there, what it does when it is shown, and whether it is of
+// one branch and through one day.
+const VIEWS = {};
+let view = { name: "", branch: "", day: today(), account: "", tag: "", id: "" };
+const link = (name, values) => `#${name}?` + new URLSearchParams(["branch", "day", "account", "tag", "id"]
+  .filter(key => values[key]).map(key => [key, values[key]]));
+function readAddress() {
+  const [name, query] = location.hash.slice(1).split(/\?(.*)/s), asked = new URLSearchParams(query ?? "");
+  const names = branches.map(one => one.name), branch = [asked.get("branch"), view.branch, kept("branch", ""), names[0]]
+    .find(one => names.includes(one)) ?? "";
+  const day = /^[0-9]{4}-[0-9]{2}-[0-9]{2}$/.test(asked.get("day") ?? "") ? asked.get("day") : view.day;
+  return { name: Object.hasOwn(VIEWS, name) ? name : "overview", branch, day, account: asked.get("account") ?? "",
+    tag: asked.get("tag") ?? "", id: asked.get("id") ?? "" };
+}
+function changeView() {
+  const before = view;
+  view = readAddress();
+  if (view.name !== before.name || (before.branch && view.branch !== before.branch)) hush();
+  if (view.branch) keep("branch", view.branch);
+  showBranches();
+  showFrame();
+  if (before.name && view.name !== before.name) $("main").focus({ preventScroll: true });
+  show();
+}
+function showFrame() {
+  const { name, branch, day } = view, { hasBranch, hasDay } = VIEWS[name];
+  for (const one of Object.keys(VIEWS)) $("view-" + one).hidden = one !== name;
+  $("heading").replaceChildren(...phrase(name + "-long", { branch }));
+  document.title = `${text(name)} – ${text("title")}`;
+  $("branch-field").hidden = !hasBranch;
+  $("day-field").hidden = !hasDay;
+  $("day").value = day;
+  for (const one of all("#views a")) {
+    one.href = link(one.dataset.view, { branch, day });
+    if (one.dataset.view === name) one.setAttribute("aria-current", "page");
+    else one.removeAttribute("aria-current");
+  }
+  $("side").classList.remove("is-open");
+  $("menu").setAttribute("aria-expanded", "false");
+}
+function show() {
+  const { hasBranch, show: showIt } = VIEWS[view.name];
+  const isMissing = hasBranch && !view.branch;
+  $("no-branch").hidden = !isMissing;
+  $("view-" + view.name).hidden = isMissing;
+  if (!isMissing) showIt();
+}
+// Loads the branches anew, and what is shown.
+async function refresh() {
+  setBusy(true);
+  try {
+    await loadFederation();
+    hush();
+    changeView();
+  } catch (trouble) {
+    if (!(trouble instanceof Trouble)) throw trouble;
+    const { why, sentence } = trouble.reply;
+    tell(panel("bad", el("p", {}, el("strong", {}, text("no-report")), " ", why ?? said(sentence)),
+      buttons(button("try-again", refresh))));
+  } finally {
+    setBusy(false);
+  }
+}
+function showTexts() {
+  document.documentElement.lang = language;
+  $("language-choice").value = language;
+  for (const one of all("[data-text]")) one.textContent = text(one.dataset.text);
+  for (const one of all("[data-label]")) one.setAttribute("aria-label", text(one.dataset.label));
+  const links = group => Object.keys(VIEWS).filter(name => VIEWS[name].group === group).map(name =>
+    el("li", {}, el("a", { "data-view": name, href: "#" + name }, text(name))));
+  $("views").replaceChildren(...["look", "enter", "finish", "manage"].map(group =>
+    el("div", {}, el("h2", {}, text("group-" + group)), el("ul", {}, links(group)))));
+  hush();
+  showPendings();
+}

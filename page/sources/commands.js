@@ -1,0 +1,130 @@
+// ---------- Commands: first a dry run, then the same for real ----------
+
+// The forms that the views have, by the names of their elements: each with the request that it makes.
+const FORMS = {};
+
+// By the path of its branch, so that a treasurer of one branch may give the commands of that branch.
+const branchOf = request => request.do === "dispatch" ? request.from : request.branch;
+const commandPath = request => "/commands" + (branchOf(request) === undefined ? "" : "/" + encoded(branchOf(request)));
+const WORDS = { id: "reference", from: "from", to: "to", branch: "branch", day: "day", amount: "amount",
+  account: "account", part: "part", accounts: "accounts", into: "into", name: "name", sample: "sample",
+  journal: "journal-text" };
+function described(request, also = []) {
+  return facts([[text("what"), text("do-" + request.do)], ...Object.entries(request)
+    .filter(([name, value]) => WORDS[name] && value)
+    .map(([name, value]) => [text(WORDS[name]), name === "journal" ? lineCount(value) : value]), ...also]);
+}
+const lineCount = journal => text("text-facts", { n: journal.split("\n").length - (journal.endsWith("\n") ? 1 : 0) });
+let isBusy = false, isHandling = false;
+function setBusy(now) {
+  isBusy = now;
+  for (const one of all("main form > fieldset, #outcome button, #pending button")) one.disabled = now;
+  document.body.setAttribute("aria-busy", String(now));
+}
+// A handler that runs once at a time, whatever is clicked meanwhile.
+const once = handle => async event => {
+  event?.preventDefault();
+  if (isBusy || isHandling) return;
+  isHandling = true;
+  try { await handle(event); } finally { isHandling = false; }
+};
+const isOpenKind = request => [...pendings.values()].some(({ key, request: open }) =>
+  open.do === request.do && key !== keyOf(request));
+// Asks what a command would do, and shows that with a button that does it: the very same request.
+async function check(request) {
+  if (isOpenKind(request)) return tell(panel("wait", el("p", {}, text("one-open"))));
+  setBusy(true);
+  const reply = await ask(commandPath(request), { ...request, "dry-run": "yes" });
+  setBusy(false);
+  if (reply.kind === "refused") return tell(refusal(reply, request));
+  if (reply.kind === "denied") return tell(denial(reply, request, "not-checked"));
+  if (reply.kind === "unknown") {
+    return tell(panel("wait", el("p", {}, el("strong", {}, reply.why)), el("p", {}, text("not-checked")),
+      buttons(button("try-again", once(() => check(request))))));
+  }
+  if (reply.kind === "repeated") return tell(panel("good", el("p", {}, text("would-repeat")), described(request)));
+  const { added, old } = reply;
+  if (added === 0) return tell(panel("good", el("p", {}, text("nothing-new", { old }))));
+  tell(panel("ask",
+    el("p", {}, el("strong", {}, added === undefined ? text("checked") : text("would-import", { n: added, old }))),
+    added === undefined ? described(request) : null, remarks(reply.notes), el("p.small", {}, text("no-undo")),
+    buttons(button("do-" + request.do, once(() => command(request)), ".main"))));
+}
+// Sends a command until a whole reply comes, three times by itself: the same request with the same ID, which the
+// treasury does once. What has had no reply is kept in the browser until it has one.
+async function command(request) {
+  if (isOpenKind(request)) return tell(panel("wait", el("p", {}, text("one-open"))));
+  const key = keyOf(request), had = pendings.get(key);
+  const one = { key, request, when: had?.when ?? new Date().toISOString(), isBusy: true };
+  pendings.set(key, one);
+  setBusy(true);
+  keepPending(one);
+  showPendings();
+  let reply, mayBeDone = Boolean(had);
+  try {
+    for (const pause of [0, 1000, 3000]) {
+      if (pause) tell(panel("wait", el("p", {}, text("sending-again"))));
+      await new Promise(go => setTimeout(go, pause));
+      reply = await ask(commandPath(request), request);
+      if (reply.kind === "unknown") mayBeDone = true;
+      else if (reply.number !== 40) break;
+    }
+    one.isBusy = false;
+    const isOpen = isUndecided(reply, mayBeDone);
+    if (!isOpen) dropPending(key);
+    showPendings();
+    tell(outcome(reply, request, isOpen, mayBeDone));
+    if (["done", "repeated", "imported"].includes(reply.kind)) await settle(request);
+  } finally {
+    setBusy(false);
+  }
+}
+// Whether a reply leaves open what became of the command. 41 may have been done; 40, 42, 43 and the server's own
+// refusals say nothing of an earlier sending.
+const isUndecided = ({ kind, number }, mayBeDone) => kind === "unknown" || number === 41
+  || (mayBeDone && (kind === "denied" || [40, 42, 43].includes(number)));
+function outcome(reply, request, isOpen, mayBeDone) {
+  if (reply.kind === "unknown") {
+    return panel("wait", el("p", {}, el("strong", {}, text("not-known")), " ", reply.why),
+      el("p", {}, text("send-above")));
+  }
+  if (reply.kind === "denied") return denial(reply, request, isOpen ? "not-known" : "nothing-entered");
+  if (reply.kind === "refused") {
+    return refusal(reply, request, isOpen ? "maybe-done" : mayBeDone ? "nothing-now" : "nothing-done");
+  }
+  const branch = branchOf(request), { added: n, old } = reply;
+  return panel("good",
+    el("p", {}, el("strong", {}, reply.kind === "imported" ? text("imported", { n, old }) : text(reply.kind))),
+    described(request), remarks(reply.notes),
+    branch && buttons(el("a", { href: link("balance", { branch }) }, text("see-balance")), request.account
+      && el("a", { href: link("register", { branch, account: request.account }) }, text("see-register"))));
+}
+function denial(reply, request, key) {
+  const branch = branchOf(request);
+  return panel("bad", el("p", {}, el("strong", {}, reply.status === 403 && branch !== undefined
+    ? phrase("no-right-branch", { branch }) : reply.why)), el("p", {}, text(key)));
+}
+// What is done leaves its form, so that the next one gets an ID of its own.
+async function settle(request) {
+  const clear = names => names.forEach(name => { $(name).value = ""; });
+  if (request.do === "dispatch" && $("send-id").value === request.id) {
+    clear(["send-amount", "send-id"]);
+  }
+  if (request.do === "receive" && $("receive-id").value === request.id) {
+    clear(["receive-id", "receive-amount", "receive-key"]);
+    document.querySelector("input[value=whole]").checked = true;
+  }
+  if (request.do === "branch" && $("branch-name").value === request.name) clear(["branch-name"]);
+  if (request.do === "commodity" && $("commodity-sample").value === request.sample) clear(["commodity-sample"]);
+  await loadFederation().catch(() => {});
+  changeView();
+}
+// IDs are made before the first try, and stay until the treasury has said that it is done.
+function randomText(length) {
+  const letters = "abcdefghjkmnpqrstuvwxyz23456789", out = [];
+  while (out.length < length) {
+    const [one] = crypto.getRandomValues(new Uint8Array(1));
+    if (one < letters.length * 8) out.push(letters[one % letters.length]);
+  }
+  return out.join("");
+}

@@ -1,0 +1,67 @@
+// ---------- Elements; every text gets into them as a text, never as HTML ----------
+
+const $ = id => document.getElementById(id);
+const all = selector => [...document.querySelectorAll(selector)];
+const valueOf = id => $(id).value;
+let language = "en";
+const locale = () => language === "de" ? "de-DE" : "en-GB";
+// A text of the table, in the form that fits the number `n`, with its values.
+function formOf(key, n) {
+  const forms = TEXTS[key][language === "de" ? 1 : 0].split("|");
+  return forms[n === 1 ? 0 : forms.length - 1];
+}
+const text = (key, values = {}) => formOf(key, values.n).replace(/\{([a-z]+)\}/g, (_, name) => values[name]);
+// The same with values that are shown apart from the text around them.
+function phrase(key, values) {
+  return formOf(key, values.n).split(/\{([a-z]+)\}/).map((one, at) => at % 2 === 0 ? one
+    : values[one] instanceof Node ? values[one] : shown(values[one]));
+}
+// el("p.soft", { click: .. }, ..): an element with its classes, attributes, listeners and what is inside.
+function el(names, attributes = {}, ...inside) {
+  const [name, ...classes] = names.split(".");
+  const made = document.createElement(name);
+  if (classes.length) made.className = classes.join(" ");
+  for (const [key, value] of Object.entries(attributes)) {
+    if (typeof value === "function") made.addEventListener(key, value);
+    else if (value !== false && (value ?? null) !== null) made.setAttribute(key, value === true ? "" : value);
+  }
+  made.append(...inside.flat(2).filter(one => one !== null && one !== undefined && one !== ""));
+  return made;
+}
+const button = (key, click, classes = "") => el("button" + classes, { type: "button", click }, text(key));
+// A text from elsewhere: its direction is its own. Characters that nobody sees, or that turn the direction of what
+// stands beside them, are shown by their numbers.
+const UNSEEN = new RegExp("[\\0-\\x08\\x0b-\\x1f\\x7f-\\x9f\\xad\\u061c\\u180e\\u200b\\u200e\\u200f\\u2028-\\u202e"
+  + "\\u2060-\\u206f\\ufeff\\ufff9-\\ufffb]", "gu");
+function shown(value) {
+  const given = String(value), out = el("bdi", { dir: "auto" });
+  let from = 0;
+  for (const found of given.matchAll(UNSEEN)) {
+    const escape = "\\u{" + found[0].codePointAt(0).toString(16) + "}";
+    out.append(given.slice(from, found.index), el("span.unseen", {}, escape));
+    from = found.index + 1;
+  }
+  out.append(given.slice(from));
+  return out;
+}
+// What the treasury says, in the language of the page where it is known there, and otherwise in its own.
+const PATTERNS = SAID.map(([english, german]) => {
+  const parts = english.split("{}").map(part => part.replace(/[.*+?^${}()|[\]\\]/g, "\\$&"));
+  return { form: new RegExp("^" + parts.join("(.+?)") + "$", "su"), german };
+});
+function said(line) {
+  if (language !== "de") return shown(line);
+  for (const { form, german } of PATTERNS) {
+    const found = form.exec(line);
+    if (found) return el("span", {}, german.split("{}").map((part, at) => at ? [shown(found[at]), part] : part));
+  }
+  return el("span", { lang: "en" }, shown(line));
+}
+const facts = rows => el("dl.facts", {}, rows.filter(Boolean).map(([name, value]) =>
+  [el("dt", {}, name), el("dd", {}, value instanceof Node ? value : shown(value))]));
+const panel = (kind, ...inside) => el("div.panel." + kind, { tabindex: "-1" }, ...inside);
+const buttons = (...inside) => el("div.buttons", {}, ...inside);
+const headRow = (keys, amountKeys, also) => el("thead", {}, el("tr", {},
+  keys.map(key => el("th", { scope: "col" }, text(key))),
+  amountKeys.map(key => el("th.amount", { scope: "col" }, text(key))), also ? el("td") : null));
+const named = (key, ...inside) => el("td", { "data-name": text(key) }, ...inside);

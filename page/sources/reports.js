@@ -1,0 +1,103 @@
+// ---------- What views have in common ----------
+
+// The amounts of a cell, in the order in which the commodities were declared; if there is none, a zero of `zero`.
+function amounts(sums, zero) {
+  const rows = [...styles.keys()].filter(symbol => sums.get(symbol)).map(symbol => [symbol, sums.get(symbol)]);
+  if (!rows.length && zero) rows.push([zero, 0n]);
+  return rows.map(([symbol, units]) => el("div", {}, shown(printAmount(symbol, units))));
+}
+const amountCell = (amount, attributes) =>
+  el(/-[0-9]/.test(amount) ? "td.amount.minus" : "td.amount", attributes, shown(amount));
+let branches = [];
+const turns = {};
+// Shows what is loaded. Old rows never stand below a new title, and a late reply never replaces a newer one.
+async function fill(place, load) {
+  const mine = turns[place] = (turns[place] ?? 0) + 1, box = $(place), isLast = () => mine === turns[place];
+  box.setAttribute("aria-busy", "true");
+  box.replaceChildren(el("p.soft", {}, text("loading")));
+  let inside;
+  try {
+    inside = await load(isLast, step => { if (isLast()) box.replaceChildren(el("p.soft", {}, step)); });
+  } catch (trouble) {
+    const reply = trouble.reply ?? { kind: "unknown", why: text("strange", { status: 200 }) };
+    inside = [reply.kind === "refused" ? refusal(reply) : panel(reply.kind === "denied" ? "bad" : "wait",
+      el("p", {}, el("strong", {}, text("no-report")), " ", reply.why), buttons(button("try-again", refresh)))];
+  }
+  if (!isLast()) return;
+  box.replaceChildren(...inside.flat().filter(Boolean));
+  box.setAttribute("aria-busy", "false");
+  box.dispatchEvent(new Event("filled"));
+}
+async function loadFederation() {
+  branches = (await report("/branches")).map(([locked, entries, name]) => ({ locked, entries: Number(entries), name }));
+  learnStyles(await report("/commodities"));
+  showBranches();
+}
+function showBranches() {
+  const names = branches.map(one => one.name), option = name => el("option", { value: name }, name);
+  $("branch").replaceChildren(...names.map(option));
+  $("branch").value = view.branch;
+  const to = $("send-to").value;
+  const others = names.filter(name => name !== view.branch);
+  $("send-to").replaceChildren(el("option", { value: "" }, text("choose")), ...others.map(option));
+  if (others.includes(to)) $("send-to").value = to;
+  const written = samples.join(", ");
+  for (const one of all("[data-samples]")) {
+    one.replaceChildren(...(samples.length ? phrase("samples", { samples: written }) : [text("no-samples")]));
+  }
+}
+async function loadAccounts() {
+  const names = (await report("/accounts/" + encoded(view.branch))).map(([name]) => name);
+  const isTransit = name => name === "assets:transit" || name.startsWith("assets:transit:");
+  $("accounts").replaceChildren(...names.filter(name => view.name === "register" || !isTransit(name))
+    .map(name => el("option", { value: name })));
+}
+// (a long name is broken behind a colon)
+const toRegister = (account, branch) => el("a", { href: link("register", { branch, account }) },
+  account.split(/(?<=:)/).map((name, at) => [at ? el("wbr") : null, shown(name)]));
+const lockState = ({ locked }) => locked ? text("locked-through", { day: locked }) : text("not-locked");
+const onPaper = what =>
+  el("p.small.soft.only-paper", {}, text("as-of", { what, when: new Date().toLocaleString(language) }));
+const printButton = () => button("print", () => print());
+// Many items are built in steps, so that the page stays alive: the first ones, and further ones on demand. The browser
+// lays out a step when it comes into sight. `make` makes the element of a step; it is `height` rem high for each item.
+const STEP = 300;
+function inSteps(items, height, countKey, make) {
+  const place = el("div.steps"), state = el("p.small.soft"), controls = el("div.buttons.no-paper");
+  let count = 0;
+  const step = () => {
+    const next = items.slice(count, count + STEP), made = el("div.step", {}, make(next, count === 0));
+    made.style.setProperty("contain-intrinsic-height", `auto ${next.length * height}rem`);
+    place.append(made);
+    count += next.length;
+    state.textContent = text(countKey, { n: count, all: items.length });
+    const left = items.length - count;
+    controls.replaceChildren(...(left ? [
+      el("button", { type: "button", click: step }, text("more", { n: Math.min(STEP, left) })),
+      left > STEP ? button("all", goOn) : ""] : []));
+  };
+  // (a timer, because frames stand still in a tab that nobody looks at)
+  const goOn = () => {
+    if (!place.isConnected || count >= items.length) return;
+    step();
+    setTimeout(goOn);
+  };
+  step();
+  return [place, state, controls];
+}
+// Open transfers, the oldest first; `act` makes what can be done with one.
+function transferTable(rows, day, caption, act) {
+  const sorted = rows.toSorted(([one], [two]) => one < two ? -1 : one > two ? 1 : 0);
+  return el("div.wide", {}, el("table.rows.transfers", {}, el("caption", {}, caption),
+    headRow(["reference", "sent", "age", "from", "to"], ["amount", "left"], true),
+    el("tbody", {}, sorted.map(row => {
+      const [sent, amount, left, from, to, id] = row, age = dayNumber(day) - dayNumber(sent);
+      return el(age > DAYS_OLD ? "tr.old" : "tr", {}, el("td.name", {}, shown(id)), el("td.day", {}, sent),
+        named("age", text("days", { n: age })), named("from", shown(from)), named("to", shown(to)),
+        amountCell(amount, { "data-name": text("amount") }), amountCell(left, { "data-name": text("left") }),
+        el("td", {}, act(row)));
+    }))));
+}
+const DAYS_OLD = 30;
+let pause = 0;
+const soon = handle => () => { clearTimeout(pause); pause = setTimeout(handle, 250); };

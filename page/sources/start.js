@@ -1,0 +1,36 @@
+// ---------- What happens when ----------
+
+for (const [name, { request }] of Object.entries(FORMS)) {
+  $(name + "-form").addEventListener("submit", once(() => check(request())));
+  $(name + "-form").addEventListener("input", hush);
+}
+$("branch").addEventListener("change", event => {
+  location.hash = link(view.name, { ...view, branch: event.target.value, account: "", tag: "", id: "" });
+});
+$("day").addEventListener("change", event => {
+  if (event.target.reportValidity()) location.hash = link(view.name, { ...view, day: event.target.value });
+});
+$("language-choice").addEventListener("change", event => {
+  language = event.target.value;
+  keep("language", language);
+  showTexts();
+  changeView();
+});
+$("menu").addEventListener("click", event => {
+  event.target.setAttribute("aria-expanded", String($("side").classList.toggle("is-open")));
+});
+addEventListener("hashchange", changeView);
+addEventListener("storage", event => {
+  if (event.key !== null && !event.key.startsWith(MINE + PENDING)) return;
+  loadPendings();
+  showPendings();
+});
+addEventListener("beforeunload", event => {
+  if ([...pendings.values()].some(one => one.isBusy)) event.preventDefault();
+});
+addEventListener("resize", soon(() => redraw()));
+language = kept("language", navigator.language.toLowerCase().startsWith("de") ? "de" : "en") === "de" ? "de" : "en";
+for (const name of ["send-day", "receive-day", "lock-day", "close-day"]) $(name).value = today();
+loadPendings();
+showTexts();
+refresh();

@@ -1,0 +1,51 @@
+// ---------- The register of an account ----------
+
+function register() {
+  const { branch, account, tag } = view;
+  $("register-account").value = account;
+  $("register-tag").value = tag;
+  fill("register-report", async () => account ? registerTable(await report(registerPath(branch, account, tag)))
+    : accountList(await report("/accounts/" + encoded(branch))));
+}
+const accountList = lines =>
+  [el("ul.accounts", {}, lines.map(([name]) => el("li", {}, toRegister(name, view.branch))))];
+function registerTable(rows) {
+  const { branch, account, tag } = view;
+  if (!rows.length) return [el("p", {}, text("no-postings"))];
+  const isOldFirst = kept("oldest-first", false), hasAccounts = rows.some(row => row[4] !== rows[0][4]);
+  const heads = ["day", "entry", "description", ...(hasAccounts ? ["account"] : [])];
+  // All steps have columns of the same width: for amounts that of the longest one.
+  const widest = at => `${rows.reduce((most, row) => Math.max(most, row[at].length), 8) + 2.2}ch`;
+  const widths = ["11.5ch", "7.5ch", "", ...(hasAccounts ? [""] : []), widest(2), widest(3)];
+  const columns = () => el("colgroup", {}, widths.map(width => {
+    const made = el("col");
+    made.style.setProperty("width", width);
+    return made;
+  }));
+  const row = ([day, entry, amount, sum, name, description]) => el("tr", {},
+    el("td.day", {}, day), named("entry", entry), el("td.name.across", {}, shown(description)),
+    hasAccounts ? el("td.name.across", {}, toRegister(name, branch)) : null,
+    amountCell(amount), amountCell(sum, { "data-name": text("running") }));
+  const table = (some, isFirst) => el("table.rows.even" + (isFirst ? "" : ".further"), {},
+    el("caption", {}, phrase(tag ? "with-tag" : "of-account", { account, branch, tag })), columns(),
+    headRow(heads, ["amount", "running"]), el("tbody", {}, some.map(row)));
+  const turn = () => {
+    keep("oldest-first", !isOldFirst);
+    fill("register-report", async () => registerTable(rows));
+  };
+  const [place, state, controls] = inSteps(isOldFirst ? rows : rows.toReversed(), 2.3, "postings-some", table);
+  return [
+    chart(rows),
+    el("div.wide", {}, place),
+    state, controls,
+    buttons(button(isOldFirst ? "newest-first" : "oldest-first", turn), printButton()),
+  ];
+}
+
+VIEWS.register = { group: "look", show: () => { register(); loadAccounts().catch(() => {}); }, hasBranch: true };
+$("register-form").addEventListener("submit", event => {
+  event.preventDefault();
+  const wanted = link("register", { ...view, account: valueOf("register-account"), tag: valueOf("register-tag") });
+  if (location.hash === wanted) register();
+  else location.hash = wanted;
+});

@@ -1,0 +1,10 @@
+// ---------- Send ----------
+
+function showSend() {
+  $("send-id").value ||= `${today().replaceAll("-", "")}-${randomText(8)}`;
+  loadAccounts().catch(() => {});
+}
+
+VIEWS.send = { group: "enter", show: showSend, hasBranch: true };
+FORMS.send = { request: () => ({ do: "dispatch", id: valueOf("send-id"), from: view.branch, to: valueOf("send-to"),
+  day: valueOf("send-day"), amount: valueOf("send-amount"), account: valueOf("send-account") }) };
