@@ -38,7 +38,8 @@ HOSTILE = """2026-03-01 <script>document.title='owned'</script>
     assets:a&tag=b?c#d%41+e  6.00 EUR
     equity:opening
 """
-VIEWS = ("overview", "balance", "register", "transit", "journal", "import", "send", "receive", "lock", "close", "setup")
+VIEWS = ("overview", "balance", "register", "transit", "journal", "import", "send", "receive", "lock", "close",
+         "setup")
 
 
 # A third of a second for the page, which is a tenth of that here: what was started has begun
@@ -245,6 +246,11 @@ def imports(holds, page, browser):
     holds("12,50 EUR is noted", "line 2: 12,50 EUR was read as 1,250.00 EUR" in said, said)
     holds("a mistyped account is noted", "line 3: asets:bank is an account that no earlier entry of north has" in said,
           said)
+    holds("the new entry is shown with its amounts", "expenses:gifts" in said and "12,50 EUR" in said, said)
+    is_shut = "return document.querySelector('#outcome button.main').disabled"
+    holds("what was read otherwise has to be ticked by itself", page.run(is_shut))
+    page.tab.click("#outcome input[type=checkbox]")
+    holds("before it can be imported", not page.run(is_shut))
     page.put("import-text", "2026-04-02 flowers\n")
     holds("an edit takes the offer away", page.text() == "")
     files(holds, page)
@@ -367,7 +373,16 @@ def looking(holds, page, browser):
     page.tab.call("Input.dispatchMouseEvent", type="mouseMoved", x=box[0] + box[2] * 0.1, y=box[1] + 60)
     holds("the pointer reads a day", page.comes(lambda: page.text(".chart output") == "2026-01-05: 4,880.00 EUR"),
           page.text(".chart output"))
-    page.go("register", branch="north", account="expenses", tag="due%3Dfriday")
+    page.go("register", branch="north", account="assets:bank", day="2026-01-31", **{"from": "2026-01-05"})
+    days = [row[0] for row in page.cells("#register-report tbody tr")]
+    holds("a period has its postings, and what moved in it", days == ["2026-01-31", "2026-01-20", "2026-01-05"]
+          and "Moved from 2026-01-05 to 2026-01-31: 1,130.00 EUR" in " ".join(page.text("#register-report").split()),
+          page.text("#register-report"))
+    page.press("Show all days", "#register-report")
+    holds("later postings are counted, and one click away", len(page.cells("#register-report tbody tr")) == 5)
+    page.go("register", branch="north", account="assets:bank", day="2026-01-05", **{"from": "2026-01-05"})
+    holds("a single day has no line", page.text("#register-report table") != "" and page.text(".chart") == "")
+    page.go("register", branch="north", account="expenses", day="2026-12-31", tag="due%3Dfriday")
     rows = page.cells("#register-report tbody tr")
     holds("a tag is asked for", len(rows) == 1 and rows[0][2] == "hall", rows)
     page.go("register", branch="north", account="assets")
@@ -512,8 +527,13 @@ def troubles(holds, page, browser):
     stand.mode = "lose"
     page.press("Send", "#outcome")
     stand.mode = "pass"
+    holds("a browser that keeps nothing: the page says so, and asks before it is left",
+          "This browser keeps nothing" in page.text("#pending")
+          and not page.run("return dispatchEvent(new Event('beforeunload', { cancelable: true }))"),
+          page.text("#pending"))
     page.press("Send the same again", "#pending")
-    holds("a browser that keeps nothing: the page itself does", "done before" in page.text(), page.text())
+    holds("it is done once, and then nothing asks", "done before" in page.text()
+          and page.run("return dispatchEvent(new Event('beforeunload', { cancelable: true }))"), page.text())
     page.open("import", branch="south")
     page.put("import-text", "2026-03-03 tea\n    expenses:tea  3.00 EUR\n    assets:bank\n")
     page.check("import")
@@ -679,6 +699,15 @@ def finishing(holds, page, browser):
     holds("a lock never moves back", "the branch is locked through a later day" in page.check("lock"))
     page.fill("lock", day="2036-03-30")
     holds("a lock far ahead is noted", "cannot be undone" in page.check("lock"), page.text())
+    page.open("overview")
+    page.run("""const Real = Date; window.Date = class extends Real {
+        constructor(...given) { super(...(given.length ? given : ['2031-02-03T12:00:00'])); } }""")
+    for view, day in (("send", "2031-02-03"), ("receive", "2031-02-03"), ("lock", "2030-12-31"),
+                      ("close", "2030-12-31")):
+        page.go(view, branch="south")
+        holds(f"{view} proposes a day of today's calendar", page.value(f"{view}-day") == day, page.value(f"{view}-day"))
+    page.tab.reload()
+    page.settle()
     page.go("import", branch="north")
     page.put("import-text", "2026-03-31 late\n    expenses:hall  1.00 EUR\n    assets:bank\n")
     holds("a locked day is refused", "Refused, line 1: the day is on or before the lock day" in page.check("import"))
@@ -697,6 +726,14 @@ def journals(holds, page, browser):
     page.put("journal-find", "BANK STATEMENT")
     page.settle()
     holds("an entry is found", page.run("return document.querySelectorAll('#journal-report pre').length") == 1)
+    asked = len(stand.seen)
+    page.put("journal-find", re.search(r"bookid:h-(\w{12})", want)[1])
+    page.settle()
+    holds("a mark of the treasury is no text of an entry", "No entry has that" in page.text("#journal-report"))
+    page.put("journal-find", "fLoWers")
+    page.settle()
+    holds("how many have it is said", "Found in 1 of" in page.text("#journal-report"), page.text("#journal-report")[:200])
+    holds("and no letter typed asks the treasury", len(stand.seen) == asked, stand.seen[asked:][:2])
     page.press("Save as a file", "#journal-report")
     page.tab.until(lambda: list(downloads.glob("north-*.journal")), "the journal is saved")
     saved = list(downloads.glob("north-*.journal"))
@@ -723,11 +760,11 @@ def overview(holds, page, browser):
         for line in stand.ask(f"/balance/{name}/2026-12-31")[1].splitlines():
             amount, account = re.match(r" *(.*?)  (.*)", line).groups()
             symbol, qty = units(amount)
-            for at in (column, 3):
+            for at in (column + 1, 0):
                 key = (account.split(":")[0], at, symbol)
                 want[key] = want.get(key, 0) + qty
     shown = {}
-    for name, *cells in page.cells("#overview-report tbody tr"):
+    for name, *cells in page.cells("#overview-report .tree tbody tr"):
         for at, cell in enumerate(cells):
             for amount in cell.split("\n"):
                 symbol, qty = units(amount)
@@ -735,10 +772,20 @@ def overview(holds, page, browser):
     wanted = {key: qty for key, qty in want.items() if qty}
     holds("the sums of all branches are exact", {key: qty for key, qty in shown.items() if qty} == wanted,
           (shown, want))
-    heads = page.texts("#overview-report thead th")
+    rows = page.cells("#overview-report .turned tbody tr")
+    holds("on paper each branch is a row, after the sum of all", [row[0] for row in rows][:4]
+          == ["All branches", "north", "south", "centre"] and all(len(row) < 7 for row in rows), rows)
+    heads = page.texts("#overview-report .tree thead th")
     holds("each branch has its entries and its lock",
-          re.search(r"north\s+\d+ entries\s+locked through 2026-03-31", heads[1])
-          and "not locked" in heads[2], heads)
+          re.search(r"north\s+\d+ entries\s+locked through 2026-03-31", heads[2])
+          and "not locked" in heads[3], heads)
+    page.tab.media("print")
+    page.tab.size(718, 1000)
+    seen = page.run("return ['.tree', '.turned'].map(it => document.querySelector('#overview-report ' + it)"
+                    ".checkVisibility()).concat(document.documentElement.scrollWidth)")
+    holds("and A4 cuts nothing", seen == [False, True, 718], seen)
+    page.tab.media()
+    page.tab.size(1180, 900)
     page.press("Unfold all", "#overview-report")
     holds("it unfolds to subaccounts", "hall:rent" in page.text("#overview-report")
           or "retained earnings" in page.text("#overview-report"))
@@ -1106,7 +1153,7 @@ def large(holds, page, browser):
         answer = stand.do(what="import", branch="large", journal=journal)
         if answer != "ok 4899 new, 0 repeated":
             return holds("a large branch is made", False, answer)
-    page.open("register", branch="large", account="assets:bank")
+    page.open("register", branch="large", account="assets:bank", day="2026-12-31")
     # How many rows are built before the page does anything else, as no time says on a machine with other work
     page.run("""window.most = 0; let last = 0;
         setInterval(() => {

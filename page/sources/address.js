@@ -3,16 +3,20 @@
 // The views, in the order of the menu: each with its group there, what it does when it is shown, and whether it is of
 // one branch and through one day.
 const VIEWS = {};
-let view = { name: "", branch: "", day: today(), account: "", tag: "", id: "" };
-const link = (name, values) => `#${name}?` + new URLSearchParams(["branch", "day", "account", "tag", "id"]
+let view = { name: "", branch: "", day: today(), account: "", tag: "", id: "", from: "", to: "", of: "" };
+const KEYS = ["branch", "day", "account", "tag", "id", "from", "to", "of"];
+const link = (name, values) => `#${name}?` + new URLSearchParams(KEYS
   .filter(key => values[key]).map(key => [key, values[key]]));
 function readAddress() {
   const [name, query] = location.hash.slice(1).split(/\?(.*)/s), asked = new URLSearchParams(query ?? "");
   const names = branches.map(one => one.name), branch = [asked.get("branch"), view.branch, kept("branch", ""), names[0]]
     .find(one => names.includes(one)) ?? "";
-  const day = /^[0-9]{4}-[0-9]{2}-[0-9]{2}$/.test(asked.get("day") ?? "") ? asked.get("day") : view.day;
-  return { name: Object.hasOwn(VIEWS, name) ? name : "overview", branch, day, account: asked.get("account") ?? "",
-    tag: asked.get("tag") ?? "", id: asked.get("id") ?? "" };
+  const isDay = value => /^[0-9]{4}-[0-9]{2}-[0-9]{2}$/.test(value ?? "");
+  const dayAt = (key, otherwise) => isDay(asked.get(key)) ? asked.get(key) : otherwise;
+  return { name: Object.hasOwn(VIEWS, name) ? name : "overview", branch, day: dayAt("day", view.day),
+    account: asked.get("account") ?? "", tag: asked.get("tag") ?? "", id: asked.get("id") ?? "",
+      from: dayAt("from", ""),
+    to: dayAt("to", ""), of: asked.get("of") === "all" ? "all" : "" };
 }
 function changeView() {
   const before = view;

@@ -33,7 +33,10 @@ function printAmount(symbol, units) {
     + (decimals ? mark + digits.slice(-decimals) : isGrouped ? mark : "");
   return isLeft ? symbol + space + number : number + space + symbol;
 }
+const printed = ({ symbol, units }) => printAmount(symbol, units);
+const zeroSymbol = () => [...styles.keys()][0];
 // Sums by commodity.
 function add(sums, { symbol, units }) {
   sums.set(symbol, (sums.get(symbol) ?? 0n) + units);
 }
+const hasAny = sums => [...sums.values()].some(Boolean);

@@ -8,7 +8,9 @@ function chart(rows) {
     if (!days.has(symbol)) days.set(symbol, new Map());
     days.get(symbol).set(day, units);
   }
-  const symbols = [...days.keys()].sort((one, two) => days.get(two).size - days.get(one).size);
+  const symbols = [...days.keys()].filter(one => days.get(one).size > 1)
+    .sort((one, two) => days.get(two).size - days.get(one).size);
+  if (!symbols.length) return null;
   const place = el("div"), caption = el("figcaption"), figure = el("figure.chart", {}, caption, place);
   const choice = symbols.length > 1 ? el("select", { "aria-label": text("commodity"), change: () => draw() },
     symbols.map(symbol => el("option", { value: symbol }, symbol))) : null;
@@ -21,7 +23,6 @@ function chart(rows) {
     caption.replaceChildren(read, choice ?? "");
     place.replaceChildren(drawing(symbol, points, Math.max(280, place.clientWidth || 720), show));
   };
-  if (days.get(symbols[0]).size < 2) return null;
   draw();
   $("register-report").addEventListener("filled", draw, { once: true });
   redraw = () => { if (place.isConnected) draw(); };

@@ -1,6 +1,8 @@
 // ---------- Commands: first a dry run, then the same for real ----------
 
-// The forms that the views have, by the names of their elements: each with the request that it makes.
+// The forms that the views have, by the names of their elements. `request` makes the request of one; what is shown with
+// its check are a `preview`, what is said if `nothing` is new or if it is `refused`, and the text of its `button`;
+// `settled` empties it after what was done.
 const FORMS = {};
 
 // By the path of its branch, so that a treasurer of one branch may give the commands of that branch.
@@ -12,13 +14,17 @@ const WORDS = { id: "reference", from: "from", to: "to", branch: "branch", day: 
 function described(request, also = []) {
   return facts([[text("what"), text("do-" + request.do)], ...Object.entries(request)
     .filter(([name, value]) => WORDS[name] && value)
-    .map(([name, value]) => [text(WORDS[name]), name === "journal" ? lineCount(value) : value]), ...also]);
+    .map(([name, value]) => [text(WORDS[name]), name === "journal" ? shortJournal(value) : value]), ...also]);
 }
 const lineCount = journal => text("text-facts", { n: journal.split("\n").length - (journal.endsWith("\n") ? 1 : 0) });
+const shortJournal = journal => journal.split("\n").length > 12 ? lineCount(journal) : el("pre", { tabindex: "0" },
+  shown(journal.trim()));
 let isBusy = false, isHandling = false;
 function setBusy(now) {
   isBusy = now;
-  for (const one of all("main form > fieldset, #outcome button, #pending button")) one.disabled = now;
+  for (const one of all("main form > fieldset, #outcome button, #pending button")) {
+    one.disabled = now || one.dataset.isShut === "yes";
+  }
   document.body.setAttribute("aria-busy", String(now));
 }
 // A handler that runs once at a time, whatever is clicked meanwhile.
@@ -30,25 +36,83 @@ const once = handle => async event => {
 };
 const isOpenKind = request => [...pendings.values()].some(({ key, request: open }) =>
   open.do === request.do && key !== keyOf(request));
-// Asks what a command would do, and shows that with a button that does it: the very same request.
-async function check(request) {
+// What is typed wrongly, before the treasury is asked.
+class Mistake extends Error {
+  constructor(field, key, values) {
+    super(key);
+    Object.assign(this, { field, key, values });
+  }
+}
+// What a check shows of a command that follows the books: the entry of a closing, or what is left of a transfer.
+async function followed(request, reply) {
+  if (request.do === "close") return reply.notes.filter(line => line.startsWith("  ")).join("\n");
+  if (request.do !== "receive" || request.part) return "";
+  return (await report("/transfers/" + FOREVER)).find(row => row[5] === request.id)?.[2] ?? "";
+}
+// Does what was checked, if the books have not changed it since: otherwise that is shown, and asked again.
+async function bound(request, also, seen) {
+  if (!seen) return command(request);
+  setBusy(true);
+  const reply = await ask(commandPath(request), { ...request, "dry-run": "yes" });
+  const now = reply.kind === "done" ? await followed(request, reply).catch(() => seen) : seen;
+  setBusy(false);
+  return now === seen ? command(request) : check(request, { ...also, isChanged: true });
+}
+// The entry that a closing has made, out of the book.
+async function showClosed({ branch, day }) {
+  const made = (await bookOf(branch).catch(() => [])).find(({ mark }) => mark === "close:" + day);
+  const shownEntry = () => [el("h3", {}, text("entry-made")), el("pre", { tabindex: "0" }, shown(made.written))];
+  if (made) $("outcome").firstChild?.append(...shownEntry());
+}
+// An amount that was read otherwise than it looks is confirmed by itself, before the button works.
+function confirmed(notes, act) {
+  if (!notes.some(line => line.includes(" was read as "))) return null;
+  const allow = isTicked => {
+    act.disabled = !isTicked;
+    act.dataset.isShut = isTicked ? "" : "yes";
+  };
+  allow(false);
+  return el("p", {}, el("label", {}, el("input", { type: "checkbox",
+    change: event => allow(event.target.checked) }), " ", text("read-so")));
+}
+// Checks what a form asks for; what is typed wrongly is said before the treasury is asked.
+async function attempt(form) {
+  let request;
+  try {
+    request = await form.request();
+  } catch (mistake) {
+    if (!(mistake instanceof Mistake)) throw mistake;
+    tell(panel("bad", el("p", {}, el("strong", {}, phrase(mistake.key, mistake.values)))));
+    $(mistake.field).focus({ preventScroll: true });
+    return;
+  }
+  await check(request, form);
+}
+// Asks what a command would do, and shows that with a button that does it: the very same request. `also` has what is
+// shown beside it: a preview, what is said if nothing is new or if it is refused, and the button's text.
+async function check(request, also = {}) {
   if (isOpenKind(request)) return tell(panel("wait", el("p", {}, text("one-open"))));
   setBusy(true);
   const reply = await ask(commandPath(request), { ...request, "dry-run": "yes" });
   setBusy(false);
-  if (reply.kind === "refused") return tell(refusal(reply, request));
+  if (reply.kind === "refused") return tell(refusal(reply, request, "nothing-done", also.refused?.(reply)));
   if (reply.kind === "denied") return tell(denial(reply, request, "not-checked"));
   if (reply.kind === "unknown") {
     return tell(panel("wait", el("p", {}, el("strong", {}, reply.why)), el("p", {}, text("not-checked")),
-      buttons(button("try-again", once(() => check(request))))));
+      buttons(button("try-again", once(() => check(request, also))))));
   }
   if (reply.kind === "repeated") return tell(panel("good", el("p", {}, text("would-repeat")), described(request)));
   const { added, old } = reply;
-  if (added === 0) return tell(panel("good", el("p", {}, text("nothing-new", { old }))));
-  tell(panel("ask",
+  if (added === 0) return tell(panel("good", el("p", {}, text("nothing-new", { old })), also.nothing?.()));
+  setBusy(true);
+  const [seen, more] = await Promise.all([followed(request, reply), also.preview?.(request, reply)])
+    .catch(() => ["", el("p.small", {}, text("no-preview"))]).finally(() => setBusy(false));
+  const act = button(also.button ?? "do-" + request.do, once(() => bound(request, also, seen)), ".main");
+  tell(panel("ask", also.isChanged ? el("p", {}, el("strong", {}, text("has-changed"))) : null,
     el("p", {}, el("strong", {}, added === undefined ? text("checked") : text("would-import", { n: added, old }))),
-    added === undefined ? described(request) : null, remarks(reply.notes), el("p.small", {}, text("no-undo")),
-    buttons(button("do-" + request.do, once(() => command(request)), ".main"))));
+    added === undefined ? described(request, request.do === "receive" && seen ? [[text("left"), seen]] : []) : null,
+    more, remarks(reply.notes, Boolean(also.preview)), el("p.small", {}, text("no-undo")), confirmed(reply.notes, act),
+    buttons(act)));
 }
 // Sends a command until a whole reply comes, three times by itself: the same request with the same ID, which the
 // treasury does once. What has had no reply is kept in the browser until it has one.
@@ -74,7 +138,10 @@ async function command(request) {
     if (!isOpen) dropPending(key);
     showPendings();
     tell(outcome(reply, request, isOpen, mayBeDone));
-    if (["done", "repeated", "imported"].includes(reply.kind)) await settle(request);
+    if (["done", "repeated", "imported"].includes(reply.kind)) {
+      await settle(request);
+      if (request.do === "close") await showClosed(request);
+    }
   } finally {
     setBusy(false);
   }
@@ -105,17 +172,9 @@ function denial(reply, request, key) {
     ? phrase("no-right-branch", { branch }) : reply.why)), el("p", {}, text(key)));
 }
 // What is done leaves its form, so that the next one gets an ID of its own.
+const clear = (...names) => names.forEach(name => { $(name).value = ""; });
 async function settle(request) {
-  const clear = names => names.forEach(name => { $(name).value = ""; });
-  if (request.do === "dispatch" && $("send-id").value === request.id) {
-    clear(["send-amount", "send-id"]);
-  }
-  if (request.do === "receive" && $("receive-id").value === request.id) {
-    clear(["receive-id", "receive-amount", "receive-key"]);
-    document.querySelector("input[value=whole]").checked = true;
-  }
-  if (request.do === "branch" && $("branch-name").value === request.name) clear(["branch-name"]);
-  if (request.do === "commodity" && $("commodity-sample").value === request.sample) clear(["commodity-sample"]);
+  for (const { settled } of Object.values(FORMS)) settled?.(request);
   await loadFederation().catch(() => {});
   changeView();
 }

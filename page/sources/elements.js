@@ -3,6 +3,7 @@
 const $ = id => document.getElementById(id);
 const all = selector => [...document.querySelectorAll(selector)];
 const valueOf = id => $(id).value;
+const listOf = id => valueOf(id).trim().split(/\s*;\s*/).join(";");
 let language = "en";
 const locale = () => language === "de" ? "de-DE" : "en-GB";
 // A text of the table, in the form that fits the number `n`, with its values.
@@ -61,7 +62,8 @@ const facts = rows => el("dl.facts", {}, rows.filter(Boolean).map(([name, value]
   [el("dt", {}, name), el("dd", {}, value instanceof Node ? value : shown(value))]));
 const panel = (kind, ...inside) => el("div.panel." + kind, { tabindex: "-1" }, ...inside);
 const buttons = (...inside) => el("div.buttons", {}, ...inside);
-const headRow = (keys, amountKeys, also) => el("thead", {}, el("tr", {},
+const headRow = (keys, amountKeys, also, last = []) => el("thead", {}, el("tr", {},
   keys.map(key => el("th", { scope: "col" }, text(key))),
-  amountKeys.map(key => el("th.amount", { scope: "col" }, text(key))), also ? el("td") : null));
+  amountKeys.map(key => el("th.amount", { scope: "col" }, text(key))), also ? el("td") : null,
+  last.map(key => el("th", { scope: "col" }, text(key)))));
 const named = (key, ...inside) => el("td", { "data-name": text(key) }, ...inside);

@@ -7,14 +7,14 @@ function tell(what) {
 }
 const hush = () => $("outcome").replaceChildren();
 // The notes beside an answer: new entries, the entry of a closing, and what may have been meant otherwise.
-function remarks(notes) {
+function remarks(notes, isShown) {
   const made = notes.filter(line => line.startsWith("  ")).map(line => line.slice(2));
   const fresh = notes.map(line => /^new: journal:([0-9]+): (.*)$/su.exec(line)).filter(Boolean);
   const rest = notes.filter(line => line.startsWith("new: and ")).map(line => line.slice("new: ".length));
   const noted = notes.filter(line => line.startsWith("note: ")).map(line => line.slice("note: ".length));
   return [
-    fresh.length ? el("h3", {}, text("new-entries")) : null,
-    fresh.length ? el("ol.lines", { tabindex: "0", role: "list", "aria-label": text("new-entries") },
+    fresh.length && !isShown ? el("h3", {}, text("new-entries")) : null,
+    fresh.length && !isShown ? el("ol.lines", { tabindex: "0", role: "list", "aria-label": text("new-entries") },
       fresh.map(([, line, header]) => el("li", {}, el("span.number", {}, line), shown(header))),
       rest.map(line => el("li", {}, el("span.number", {}), said(line)))) : null,
     made.length ? el("h3", {}, text("entry-made")) : null,
@@ -26,12 +26,13 @@ function remarks(notes) {
 // A note begins with its place: a line of the journal, or the option that stands for a field.
 function noteText(line) {
   const found = /^journal:([0-9]+): (.*)$/su.exec(line), option = /^--([a-z]+): (.*)$/su.exec(line);
+  if (found && view.name !== "import") return said(found[2]);
   if (found) return [el("button.plain", { type: "button", click: () => goTo(Number(found[1])) },
     text("line", { line: found[1] })), ": ", said(found[2])];
   if (option && WORDS[option[1]]) return [text(WORDS[option[1]]), ": ", said(option[2])];
   return said(line);
 }
-function refusal(reply, request, end = "nothing-done") {
+function refusal(reply, request, end = "nothing-done", also = null) {
   const { number, name, sentence, line } = reply;
   // What stands below the sentence, but for the line itself, which is shown among its neighbours.
   const hints = reply.told.filter(one => /^ {2}(?! *[0-9]+ \|)/.test(one)).map(one => one.slice(2));
@@ -39,9 +40,10 @@ function refusal(reply, request, end = "nothing-done") {
   return panel(end === "maybe-done" ? "wait" : "bad",
     el("p", {}, el("strong", {}, phrase(line ? "refused-line" : "refused", { line, sentence: said(sentence) }))),
     isMarked ? excerpt(request.journal.replace(/\n$/, "").split("\n"), line) : null,
-    hints.length ? el("ul", {}, hints.map(one => el("li", {}, said(one)))) : null,
+    hints.length ? el("ul", {}, hints.map(one => el("li", {}, said(one)))) : null, also,
     el("p.small", {}, text(end, { number, name })),
-    isMarked ? buttons(el("button", { type: "button", click: () => goTo(line) }, text("go-to-line", { line }))) : null);
+    isMarked && view.name === "import" ? buttons(el("button", { type: "button", click: () => goTo(line) },
+      text("go-to-line", { line }))) : null);
 }
 // A line of a text, marked, among those beside it.
 function excerpt(lines, marked) {

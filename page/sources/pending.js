@@ -50,6 +50,7 @@ function showPendings() {
       el("p", {}, el("strong", {}, text("pending", { what: text("do-" + one.request.do) }))),
       described(one.request, [[text("first-sent"), new Date(one.when).toLocaleString(language)]]),
       isGone ? el("p", {}, text("same-file")) : null,
+      one.isUnkept ? el("p", {}, text("keeps-nothing")) : null,
       isGone ? buttons(button("did-that", () => forget(one))) : buttons(
         button("send-again", once(() => command(one.request)), ".main"),
         button("forget", event => askForget(one, event.target.closest(".panel")))));

@@ -8,6 +8,10 @@ function amounts(sums, zero) {
 }
 const amountCell = (amount, attributes) =>
   el(/-[0-9]/.test(amount) ? "td.amount.minus" : "td.amount", attributes, shown(amount));
+const sumCells = columns => columns.map(sums => el(hasAny(sums) && [...sums.values()].some(units => units < 0n)
+  ? "td.amount.minus" : "td.amount", {}, amounts(sums, zeroSymbol())));
+const sumRow = (name, columns, classes = ".top") => el("tr" + classes, {}, el("th.name", { scope: "row" }, name),
+  sumCells(columns));
 let branches = [];
 const turns = {};
 // Shows what is loaded. Old rows never stand below a new title, and a late reply never replaces a newer one.
@@ -27,6 +31,16 @@ async function fill(place, load) {
   box.replaceChildren(...inside.flat().filter(Boolean));
   box.setAttribute("aria-busy", "false");
   box.dispatchEvent(new Event("filled"));
+}
+// The books that were loaded. A book only grows: with as many entries it is the same book.
+const books = new Map();
+async function bookOf(branch) {
+  await loadFederation();
+  const count = branches.find(one => one.name === branch)?.entries, had = books.get(branch);
+  if (had && had.length === count) return had;
+  const book = (await report("/journal/" + encoded(branch))).map(([written], at) => entryOf(written, at + 1));
+  books.set(branch, book);
+  return book;
 }
 async function loadFederation() {
   branches = (await report("/branches")).map(([locked, entries, name]) => ({ locked, entries: Number(entries), name }));
@@ -48,7 +62,6 @@ function showBranches() {
 }
 async function loadAccounts() {
   const names = (await report("/accounts/" + encoded(view.branch))).map(([name]) => name);
-  const isTransit = name => name === "assets:transit" || name.startsWith("assets:transit:");
   $("accounts").replaceChildren(...names.filter(name => view.name === "register" || !isTransit(name))
     .map(name => el("option", { value: name })));
 }
@@ -56,8 +69,7 @@ async function loadAccounts() {
 const toRegister = (account, branch) => el("a", { href: link("register", { branch, account }) },
   account.split(/(?<=:)/).map((name, at) => [at ? el("wbr") : null, shown(name)]));
 const lockState = ({ locked }) => locked ? text("locked-through", { day: locked }) : text("not-locked");
-const onPaper = what =>
-  el("p.small.soft.only-paper", {}, text("as-of", { what, when: new Date().toLocaleString(language) }));
+const onPaper = what => el("p.small.soft.only-paper", { "data-printed": what });
 const printButton = () => button("print", () => print());
 // Many items are built in steps, so that the page stays alive: the first ones, and further ones on demand. The browser
 // lays out a step when it comes into sight. `make` makes the element of a step; it is `height` rem high for each item.
@@ -99,5 +111,15 @@ function transferTable(rows, day, caption, act) {
     }))));
 }
 const DAYS_OLD = 30;
+// A day that nobody has chosen follows the calendar.
+function propose(id, day) {
+  if ($(id).value && $(id).value !== $(id).dataset.proposed) return;
+  $(id).value = $(id).dataset.proposed = day;
+}
+// The end of last year where the branch is not locked through it, or else nothing: a lock cannot be taken back.
+function lastYearEnd() {
+  const day = `${String(Number(today().slice(0, 4)) - 1).padStart(4, "0")}-12-31`;
+  return branches.some(one => one.name === view.branch && one.locked >= day) ? "" : day;
+}
 let pause = 0;
 const soon = handle => () => { clearTimeout(pause); pause = setTimeout(handle, 250); };

@@ -113,6 +113,7 @@ const SAID = [
     "Erträge und Aufwände von {} sind bis {} nicht null; nach dieser Sperre schließt {} sie am {} ab"],
   ["and {} more", "und {} weitere"],
   ["account: {}", "Konto: {}"],
+  ["entry: {}, which is new", "Buchung: {}, die neu ist"],
   ["entry: {}", "Buchung: {}"],
   ["asserted: {}", "geprüft auf: {}"],
   ["found: {}", "gefunden: {}"],
@@ -135,4 +136,10 @@ const SAID = [
     "ein Kontoname endet an zwei Leerzeichen oder einem Tabulator: nach einem Leerzeichen gehört der Betrag zum Namen"],
   ["a date is written 2024-12-31, 2024/12/31 or 2024.12.31, with four digits of the year",
     "ein Datum wird 2024-12-31, 2024/12/31 oder 2024.12.31 geschrieben, mit vier Ziffern für das Jahr"],
+  ["amounts are written: {}", "Beträge werden so geschrieben: {}"],
+  ["an account is one or more names joined by single colons, at most 200 bytes in all, with no `;`, no tab, no two "
+    + "spaces in a row, and no space at either end",
+    "ein Konto besteht aus Namen mit je einem Doppelpunkt dazwischen, höchstens 200 Bytes, ohne `;`, Tabulator, zwei "
+    + "Leerzeichen hintereinander oder Leerzeichen am Rand"],
+  ["`hledger print -x` writes {}", "das ist kein Journal; für die Datei einer Bank gibt es die Ansicht Bankdatei"],
 ];

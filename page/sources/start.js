@@ -1,7 +1,7 @@
 // ---------- What happens when ----------
 
-for (const [name, { request }] of Object.entries(FORMS)) {
-  $(name + "-form").addEventListener("submit", once(() => check(request())));
+for (const [name, form] of Object.entries(FORMS)) {
+  $(name + "-form").addEventListener("submit", once(() => attempt(form)));
   $(name + "-form").addEventListener("input", hush);
 }
 $("branch").addEventListener("change", event => {
@@ -26,11 +26,15 @@ addEventListener("storage", event => {
   showPendings();
 });
 addEventListener("beforeunload", event => {
-  if ([...pendings.values()].some(one => one.isBusy)) event.preventDefault();
+  if ([...pendings.values()].some(one => one.isBusy || one.isUnkept)) event.preventDefault();
 });
 addEventListener("resize", soon(() => redraw()));
+addEventListener("beforeprint", () => {
+  for (const one of all("[data-printed]")) {
+    one.textContent = text("as-of", { what: one.dataset.printed, when: new Date().toLocaleString(language) });
+  }
+});
 language = kept("language", navigator.language.toLowerCase().startsWith("de") ? "de" : "en") === "de" ? "de" : "en";
-for (const name of ["send-day", "receive-day", "lock-day", "close-day"]) $(name).value = today();
 loadPendings();
 showTexts();
 refresh();

@@ -1,9 +1,11 @@
 // ---------- The balance of a branch ----------
 
-function balance() {
-  const { branch, day } = view;
+let balanceRows = { key: "", rows: [] };
+function balance(isSearch = false) {
+  const { branch, day } = view, key = `/balance/${encoded(branch)}/${day}`;
   fill("balance-report", async () => {
-    const rows = await report(`/balance/${encoded(branch)}/${day}`);
+    if (!isSearch || balanceRows.key !== key) balanceRows = { key, rows: await report(key) };
+    const { rows } = balanceRows;
     const caption = phrase("balance-through", { branch, day });
     return [onPaper(text("balance-through", { branch, day })), ...tree("balance", caption, [rows], [text("running")],
       account => link("register", { branch, account, day }), $("balance-find").value, rows.length > 400 ? 1 : 9)];
@@ -11,4 +13,4 @@ function balance() {
 }
 
 VIEWS.balance = { group: "look", show: balance, hasBranch: true, hasDay: true };
-$("balance-find").addEventListener("input", soon(balance));
+$("balance-find").addEventListener("input", soon(() => balance(true)));

@@ -23,9 +23,24 @@ async function readFile(file, encoding) {
   $("import-text").value = fileText ?? "";
   showFacts();
 }
+// The texts of the new entries of an import, as they stand in its text.
+function importPreview({ journal }, { notes }) {
+  const lines = journal.split("\n"), fresh = notes.filter(line => line.startsWith("new: "));
+  const starts = fresh.map(line => /^new: journal:([0-9]+): /.exec(line)?.[1]).filter(Boolean).slice(0, 50).map(Number);
+  if (!starts.length) return null;
+  const texts = starts.map(start => {
+    const end = lines.findIndex((line, at) => at >= start && !/^[ \t]+\S/.test(line));
+    return lines.slice(start - 1, end < 0 ? lines.length : end).join("\n").replaceAll("\r", "");
+  });
+  return [el("h3", {}, text("new-entries")), el("pre", { tabindex: "0" }, shown(texts.join("\n\n"))),
+    fresh.length > starts.length ? el("p.small", {}, "…") : null];
+}
 
 VIEWS.import = { group: "enter", show: showFacts, hasBranch: true };
-FORMS.import = { request: () => ({ do: "import", branch: view.branch, journal: importText() }) };
+FORMS.import = {
+  request: () => ({ do: "import", branch: view.branch, journal: importText() }),
+  preview: importPreview,
+};
 $("import-file").addEventListener("change", event => {
   if (event.target.files[0]) readFile(event.target.files[0], "utf-8");
 });

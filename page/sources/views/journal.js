@@ -1,21 +1,22 @@
 // ---------- The journal of a branch ----------
 
-function journal() {
+// (a mark that the treasury made is no text to be found: it is a number that would hold nearly everything)
+const searched = ({ written }) => written.replace(/\n {4}; bookid:(h|bank|bank-end)-\S*/, "").toLowerCase();
+function journal(isSearch = false) {
   const { branch } = view;
   fill("journal-report", async () => {
-    const entries = (await report("/journal/" + encoded(branch))).map(([entry], at) => [at + 1, entry]);
-    const wanted = $("journal-find").value.toLowerCase();
-    const found = entries.filter(([, entry]) => entry.toLowerCase().includes(wanted)).reverse();
-    const nameOf = number => `${text("entry")} ${number}`;
-    const steps = inSteps(found, 6, "entries-some", some => some.map(([number, entry]) =>
-      el("pre", { tabindex: "0", "aria-label": nameOf(number) }, shown(entry))));
-    return [buttons(button("save", () => saveJournal(branch, entries), ".main")),
-      entries.length && !found.length ? el("p", {}, text("no-entries")) : null, steps];
+    const book = isSearch && books.get(branch) || await bookOf(branch), wanted = $("journal-find").value.toLowerCase();
+    const found = wanted ? book.filter(one => searched(one).includes(wanted)).reverse() : book.toReversed();
+    const steps = inSteps(found, 6, "entries-some", some => some.map(({ number, written }) =>
+      el("pre", { tabindex: "0", "aria-label": `${text("entry-number")} ${number}` }, shown(written))));
+    return [buttons(button("save", () => saveJournal(branch, book), ".main")),
+      wanted ? el("p", {}, found.length ? text("found-of", { n: found.length, all: book.length }) : text("no-entries"))
+        : null, steps];
   });
 }
 // The journal report, byte for byte: each text of a transaction and an empty line.
-function saveJournal(branch, entries) {
-  const body = new Blob(entries.map(([, entry]) => entry + "\n"), { type: "text/plain;charset=utf-8" });
+function saveJournal(branch, book) {
+  const body = new Blob(book.map(({ written }) => written + "\n"), { type: "text/plain;charset=utf-8" });
   const made = el("a", { href: URL.createObjectURL(body), download: `${branch}-${today()}.journal`, hidden: true });
   document.body.append(made);
   made.click();
@@ -23,4 +24,4 @@ function saveJournal(branch, entries) {
 }
 
 VIEWS.journal = { group: "look", show: journal, hasBranch: true };
-$("journal-find").addEventListener("input", soon(journal));
+$("journal-find").addEventListener("input", soon(() => journal(true)));

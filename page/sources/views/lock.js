@@ -1,6 +1,7 @@
 // ---------- Lock ----------
 
 function showLock() {
+  propose("lock-day", lastYearEnd());
   const found = branches.find(one => one.name === view.branch);
   $("lock-now").textContent = found ? text("lock-now", { state: lockState(found) }) : "";
 }

@@ -13,9 +13,19 @@ function overview() {
     const heads = branches.map(one => [el("a", { href: link("balance", { branch: one.name, day }) }, shown(one.name)),
       el("span.soft", {}, text("entries", { n: one.entries })), el("span.soft", {}, lockState(one))]);
     const caption = text("branches-through", { day });
-    return [onPaper(caption), ...tree("overview", caption, [...columns, columns.flat()],
-      [...heads, text("all-branches")], () => null, "", 0)];
+    return [onPaper(caption), ...paperOverview(columns), ...tree("overview", caption, [columns.flat(), ...columns],
+      [text("all-branches"), ...heads], () => null, "", 0).map((one, at) => at ? one : el("div.no-paper", {}, one))];
   });
+}
+// On paper branches are rows, so that none is cut off: some accounts at a time, and the sum of all branches first.
+function paperOverview(columns) {
+  const root = treeOf([columns.flat(), ...columns]), tops = [...root.inside.values()], blocks = [];
+  while (tops.length) blocks.push(tops.splice(0, 5));
+  return blocks.map(block => el("table.only-paper.turned", {},
+    el("thead", {}, el("tr", {}, el("th", { scope: "col" }, text("branch")),
+      block.map(({ name }) => el("th.amount", { scope: "col" }, shown(name))))),
+    el("tbody", {}, [text("all-branches"), ...branches.map(one => shown(one.name))].map((name, at) =>
+      sumRow(name, block.map(({ sums }) => sums[at]), at ? "" : ".top")))));
 }
 
 VIEWS.overview = { group: "look", show: overview, hasDay: true };

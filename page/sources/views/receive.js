@@ -8,6 +8,7 @@ function showPart() {
 }
 function showReceive() {
   const { branch } = view;
+  propose("receive-day", today());
   showPart();
   loadAccounts().catch(() => {});
   fill("receive-report", async () => {
@@ -30,10 +31,16 @@ function showReceive() {
     return [transferTable(rows, today(), phrase("open-for", { branch }), choice)];
   });
 }
-const receiveRequest = () => ({ do: "receive", id: valueOf("receive-id"), branch: view.branch,
-  day: valueOf("receive-day"), account: valueOf("receive-account"),
-  ...(isPart() && { part: valueOf("receive-key"), amount: valueOf("receive-amount") }) });
 
 VIEWS.receive = { group: "enter", show: showReceive, hasBranch: true };
-FORMS.receive = { request: receiveRequest };
+FORMS.receive = {
+  request: () => ({ do: "receive", id: valueOf("receive-id"), branch: view.branch, day: valueOf("receive-day"),
+    account: valueOf("receive-account"),
+    ...(isPart() && { part: valueOf("receive-key"), amount: valueOf("receive-amount") }) }),
+  settled: request => {
+    if (request.do !== "receive" || valueOf("receive-id") !== request.id) return;
+    clear("receive-id", "receive-amount", "receive-key");
+    document.querySelector("input[value=whole]").checked = true;
+  },
+};
 for (const one of all("input[name=receive-how]")) one.addEventListener("change", showPart);

@@ -1,19 +1,24 @@
 // ---------- The register of an account ----------
 
 function register() {
-  const { branch, account, tag } = view;
+  const { branch, account, tag, from } = view;
   $("register-account").value = account;
+  $("register-from").value = from;
   $("register-tag").value = tag;
   fill("register-report", async () => account ? registerTable(await report(registerPath(branch, account, tag)))
     : accountList(await report("/accounts/" + encoded(branch))));
 }
 const accountList = lines =>
   [el("ul.accounts", {}, lines.map(([name]) => el("li", {}, toRegister(name, view.branch))))];
-function registerTable(rows) {
-  const { branch, account, tag } = view;
-  if (!rows.length) return [el("p", {}, text("no-postings"))];
+function registerTable(whole) {
+  const { branch, account, tag, from, day: through } = view;
+  const rows = whole.filter(([day]) => day >= from && day <= through);
+  const later = whole.filter(([day]) => day > through).length;
+  const hidden = later ? el("p", {}, text("later", { n: later }), " ", el("a", { href: link("register", { ...view,
+    day: FOREVER }) }, text("show-later"))) : null;
+  if (!rows.length) return [el("p", {}, text(whole.length ? "none-then" : "no-postings")), hidden];
   const isOldFirst = kept("oldest-first", false), hasAccounts = rows.some(row => row[4] !== rows[0][4]);
-  const heads = ["day", "entry", "description", ...(hasAccounts ? ["account"] : [])];
+  const heads = ["day", "entry-number", "description", ...(hasAccounts ? ["account"] : [])];
   // All steps have columns of the same width: for amounts that of the longest one.
   const widest = at => `${rows.reduce((most, row) => Math.max(most, row[at].length), 8) + 2.2}ch`;
   const widths = ["11.5ch", "7.5ch", "", ...(hasAccounts ? [""] : []), widest(2), widest(3)];
@@ -23,7 +28,8 @@ function registerTable(rows) {
     return made;
   }));
   const row = ([day, entry, amount, sum, name, description]) => el("tr", {},
-    el("td.day", {}, day), named("entry", entry), el("td.name.across", {}, shown(description)),
+    el("td.day", {}, day), named("entry-number", shown(entry)),
+    el("td.name.across", {}, shown(description)),
     hasAccounts ? el("td.name.across", {}, toRegister(name, branch)) : null,
     amountCell(amount), amountCell(sum, { "data-name": text("running") }));
   const table = (some, isFirst) => el("table.rows.even" + (isFirst ? "" : ".further"), {},
@@ -31,10 +37,14 @@ function registerTable(rows) {
     headRow(heads, ["amount", "running"]), el("tbody", {}, some.map(row)));
   const turn = () => {
     keep("oldest-first", !isOldFirst);
-    fill("register-report", async () => registerTable(rows));
+    fill("register-report", async () => registerTable(whole));
   };
   const [place, state, controls] = inSteps(isOldFirst ? rows : rows.toReversed(), 2.3, "postings-some", table);
+  place.style.setProperty("--least", `calc(${widest(2)} + ${widest(3)} + ${hasAccounts ? "63ch" : "43ch"})`);
+  const sums = new Map();
+  for (const row of rows) add(sums, readAmount(row[2]));
   return [
+    from ? el("p", {}, text("moved-in", { from, to: through }), ": ", amounts(sums, zeroSymbol())) : null, hidden,
     chart(rows),
     el("div.wide", {}, place),
     state, controls,
@@ -42,10 +52,12 @@ function registerTable(rows) {
   ];
 }
 
-VIEWS.register = { group: "look", show: () => { register(); loadAccounts().catch(() => {}); }, hasBranch: true };
+VIEWS.register = { group: "look", show: () => { register(); loadAccounts().catch(() => {}); }, hasBranch: true,
+  hasDay: true };
 $("register-form").addEventListener("submit", event => {
   event.preventDefault();
-  const wanted = link("register", { ...view, account: valueOf("register-account"), tag: valueOf("register-tag") });
+  const wanted = link("register", { ...view, account: valueOf("register-account"), tag: valueOf("register-tag"),
+    from: valueOf("register-from") });
   if (location.hash === wanted) register();
   else location.hash = wanted;
 });

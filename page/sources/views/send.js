@@ -1,10 +1,16 @@
 // ---------- Send ----------
 
 function showSend() {
+  propose("send-day", today());
   $("send-id").value ||= `${today().replaceAll("-", "")}-${randomText(8)}`;
   loadAccounts().catch(() => {});
 }
 
 VIEWS.send = { group: "enter", show: showSend, hasBranch: true };
-FORMS.send = { request: () => ({ do: "dispatch", id: valueOf("send-id"), from: view.branch, to: valueOf("send-to"),
-  day: valueOf("send-day"), amount: valueOf("send-amount"), account: valueOf("send-account") }) };
+FORMS.send = {
+  request: () => ({ do: "dispatch", id: valueOf("send-id"), from: view.branch, to: valueOf("send-to"),
+    day: valueOf("send-day"), amount: valueOf("send-amount"), account: valueOf("send-account") }),
+  settled: request => {
+    if (request.do === "dispatch" && valueOf("send-id") === request.id) clear("send-amount", "send-id");
+  },
+};

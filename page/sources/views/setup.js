@@ -9,5 +9,15 @@ function showSetup() {
 }
 
 VIEWS.setup = { group: "manage", show: showSetup };
-FORMS.branch = { request: () => ({ do: "branch", name: valueOf("branch-name") }) };
-FORMS.commodity = { request: () => ({ do: "commodity", sample: valueOf("commodity-sample") }) };
+FORMS.branch = {
+  request: () => ({ do: "branch", name: valueOf("branch-name") }),
+  settled: request => {
+    if (request.do === "branch" && valueOf("branch-name") === request.name) clear("branch-name");
+  },
+};
+FORMS.commodity = {
+  request: () => ({ do: "commodity", sample: valueOf("commodity-sample") }),
+  settled: request => {
+    if (request.do === "commodity" && valueOf("commodity-sample") === request.sample) clear("commodity-sample");
+  },
+};
