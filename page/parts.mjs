@@ -3,10 +3,12 @@
 import fs from "node:fs";
 import util from "node:util";
 
-const SOURCES = ["amounts.js", "days.js", "interface.js", "pending.js", "commands.js", "tree.js", "chart.js"];
-const NAMES = "learnStyles, readAmount, printAmount, dayNumber, understood, keyOf, isUndecided, treeOf, ticks";
+const SOURCES = ["amounts.js", "days.js", "interface.js", "entries.js", "pending.js", "commands.js", "tree.js",
+  "chart.js"];
+const NAMES = ["learnStyles", "readAmount", "printAmount", "amountTyped", "dayNumber", "understood", "entryOf",
+  "legsOf", "plain", "entryText", "keyOf", "isUndecided", "treeOf", "ticks"];
 const written = SOURCES.map(name => fs.readFileSync(new URL("sources/" + name, import.meta.url), "utf-8")).join("");
-const page = new Function(`"use strict";\n${written}\nreturn { ${NAMES} };`)();
+const page = new Function(`"use strict";\n${written}\nreturn { ${NAMES.join()} };`)();
 
 let passed = 0, failed = 0;
 function gives(what, made, wanted) {
@@ -37,6 +39,63 @@ const NONE = ["1.5 EUR", "1234.00 EUR", "1,50 EUR", "1.50 GBP", "1.50", "EUR 1.5
 for (const amount of NONE) {
   gives(`${amount} is not what the treasury prints`, () => page.readAmount(amount), "Error: no amount: " + amount);
 }
+
+// Amounts as a person types them: group marks only before three digits, decimals as declared; otherwise none
+const TYPED = [
+  ["8.50", "EUR", 850n], ["8.5", "EUR", 850n], ["8", "EUR", 800n], ["8.500", "EUR", 850n], ["1,000", "EUR", 100000n],
+  ["1000.00", "EUR", 100000n], ["-3", "EUR", -300n], ["\u22123", "EUR", -300n], ["1\u00a0000.00", "EUR", 100000n],
+  [" 8.50 EUR ", "EUR", 850n], ["$5", "$", 500n], ["-$5", "$", -500n], ["$-5", "$", -500n], ["+5 $", "$", 500n],
+  ["5,5 CHF", "CHF", 550n], ["1.000,5 CHF", "CHF", 100050n], ["12 JPY", "JPY", 12n], ['2 "kg2"', '"kg2"', 200n],
+  ["99999999999999.99", "EUR", 9999999999999999n],
+  ...["8,50", "8.505", "1,0.00", "1,00", "10,00.00", "8.50 GBP", "5.5 CHF", "1.5 JPY", "", "x", "$5 EUR", "-$-5", "5-",
+    "5 6", "1..0"].map(typed => [typed]),
+];
+for (const [typed, symbol, units] of TYPED) {
+  gives(`${typed} as it is typed`, () => page.amountTyped(typed), symbol ? { symbol, units } : null);
+}
+
+// Entries, as the journal report prints them
+const HALL = `2026-01-05 * (17) hall
+    ; bookid:h-ab-1
+    ; due: friday
+    expenses:hall rent  120.00 EUR = 120.00 EUR
+    ; a note
+    * assets:bank
+`;
+const leg = (account, symbol, units) => ({ account, symbol, units });
+gives("an entry's parts", () => {
+  const { number, day, code, description, mark, comments, postings } = page.entryOf(HALL, 3);
+  return [number, day, code, description, mark, comments, postings.map(one => [one.account, one.amount, one.sign,
+    one.asserted, one.comments])];
+}, [3, "2026-01-05", "17", "hall", "h-ab-1", ["due: friday"],
+  [["expenses:hall rent", "120.00 EUR", "=", "120.00 EUR", ["a note"]], ["assets:bank", undefined, undefined, undefined,
+    []]]]);
+const LEGS = [
+  ["a posting without an amount takes what is left", "    a  120.00 EUR\n    b",
+    [leg("a", "EUR", 12000n), leg("b", "EUR", -12000n)]],
+  ["in each commodity", "    a  1.00 EUR\n    a  $2.00\n    b",
+    [leg("a", "EUR", 100n), leg("a", "$", 200n), leg("b", "EUR", -100n), leg("b", "$", -200n)]],
+  ["a unit price", '    a  3.00 "kg2" @ $1.35\n    b', [leg("a", '"kg2"', 300n), leg("b", "$", -405n)]],
+  ["a unit price with more decimals", '    a  200.00 "kg2" @ $0.0125\n    b',
+    [leg("a", '"kg2"', 20000n), leg("b", "$", -250n)]],
+  ["a price in total has the amount's sign", '    a  -3.00 "kg2" @@ $4.00\n    b',
+    [leg("a", '"kg2"', -300n), leg("b", "$", 400n)]],
+  ["a price with the other decimal mark", "    a  2.00 EUR @ 1,25 CHF\n    b",
+    [leg("a", "EUR", 200n), leg("b", "CHF", -250n)]],
+  ["assertions move nothing", "    a  0.00 EUR ==* 5.00 EUR\n    b  $0.00", [leg("a", "EUR", 0n), leg("b", "$", 0n)]],
+];
+for (const [what, postings, legs] of LEGS) {
+  gives(what, () => page.legsOf(page.entryOf(`2026-01-05 x\n    ; bookid:m\n${postings}\n`, 1)), legs);
+}
+const PLAIN = [["  tea;\tmilk ", "tea, milk"], ["* star", "- * star"], ["(17) x", "- (17) x"], ["!", "- !"],
+  ["a\u2028b\u0000c", "a b c"], ["x".repeat(600), "x".repeat(480)]];
+for (const [given, wanted] of PLAIN) gives(`${given} as a description`, () => page.plain(given), wanted);
+gives("an entry's text", () => page.entryText("2026-05-01", "tea; milk", "p-1", [leg("a", "EUR", 850n),
+  { ...leg("b", "EUR", -850n), asserted: { symbol: "EUR", units: 9150n } }]), `2026-05-01 tea, milk
+    ; bookid:p-1
+    a  8.50 EUR
+    b  -8.50 EUR = 91.50 EUR
+`);
 
 // Replies
 const done = { answer: "ok", told: [], notes: [] };

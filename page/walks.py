@@ -38,8 +38,8 @@ HOSTILE = """2026-03-01 <script>document.title='owned'</script>
     assets:a&tag=b?c#d%41+e  6.00 EUR
     equity:opening
 """
-VIEWS = ("overview", "balance", "register", "transit", "journal", "import", "send", "receive", "lock", "close",
-         "setup")
+VIEWS = ("overview", "balance", "register", "transit", "journal", "item", "entry", "import", "send", "receive",
+         "lock", "close", "setup")
 
 
 # A third of a second for the page, which is a tenth of that here: what was started has begun
@@ -77,7 +77,11 @@ class Page:
     def go(self, view, **values):
         """Goes to a view by its address, as a link does."""
         query = "&".join(f"{key}={value}" for key, value in values.items())
-        self.run(f"location.hash = {json.dumps(f'#{view}?{query}')}; {PAUSE}")
+        self.run(f"""const heard = new Promise(go => addEventListener('hashchange', go, {{ once: true }}));
+            const before = location.href;
+            location.hash = {json.dumps(f'#{view}?{query}')};
+            if (location.href !== before) await heard;
+            {PAUSE}""")
         self.settle()
 
     def open(self, view, **values):
@@ -145,7 +149,7 @@ def try_all(tally, browser, stand, wanted):
     """Tries each walk, in one tab."""
     page = Page(browser, stand)
     walks = (first_day, imports, looking, sending, troubles, tabs, receiving, finishing, faults, journals, overview,
-             hostile, styles, broken, rights, others, german, access, large)
+             keeping, hostile, styles, broken, rights, others, german, access, large)
     for walk in walks:
         if wanted and walk.__name__ not in wanted:
             continue
@@ -791,6 +795,71 @@ def overview(holds, page, browser):
           or "retained earnings" in page.text("#overview-report"))
     page.press("south", "#overview-report")
     holds("a branch leads to its balance", page.text("#heading") == "Balance of south")
+
+
+def last_entry(stand, branch):
+    """The text of the newest entry of a branch."""
+    return stand.ask(f"/journal/{branch}")[1].rstrip("\n").split("\n\n")[-1]
+
+
+def count_of(stand, branch):
+    """How many entries a branch has."""
+    return int(re.search(rf"(\d+)  {branch}$", stand.ask("/branches")[1], re.M)[1])
+
+
+def keeping(holds, page, browser):
+    """Entries by the form: checked, entered once, twice on purpose, reversed once, copied."""
+    stand = page.stand
+    stand.do(what="branch", name="keep")
+    stand.do(what="import", branch="keep", journal="2026-01-01 opening\n  assets:cash  100.00 EUR\n  equity:opening\n")
+    page.open("entry", branch="keep")
+
+    def receipt(amount):
+        page.fill("entry", day="2026-05-01", what="stamps", **{"from": "assets:cash"})
+        page.put("entry-to-0", "expenses:post")
+        page.put("entry-amount-0", amount)
+
+    for wrong in ("8,50", "8.505", "1,0.00", "8.50 GBP", "x"):
+        receipt(wrong)
+        holds(f"{wrong} is no amount", "is no amount here" in page.check("entry"), page.text())
+    receipt("8.50")
+    said = page.check("entry")
+    holds("the check shows the entry and the balances", all(it in said for it in (
+        "expenses:post  8.50 EUR", "assets:cash  -8.50 EUR", "100.00 EUR", "91.50 EUR")), said)
+    page.fill("entry", says="91.50")
+    page.deed("entry", times=3)
+    holds("three clicks enter it once, with its assertion", count_of(stand, "keep") == 2
+          and last_entry(stand, "keep").endswith("= 91.50 EUR"), last_entry(stand, "keep"))
+    receipt("8.50")
+    holds("an equal receipt is noticed", "has the same accounts and amounts" in page.check("entry"), page.text())
+    page.tab.click("#outcome button.main")
+    page.run(PAUSE)
+    page.settle()
+    holds("and entered, as it was wished", count_of(stand, "keep") == 3)
+    receipt("1.00")
+    page.press("One more line", "#entry-form")
+    page.put("entry-to-1", "expenses:gifts")
+    page.put("entry-amount-1", "2")
+    stand.mode = "lose"
+    page.deed("entry")
+    page.tab.until(lambda: "not known" in page.text(), "the page gives up")
+    page.settle()
+    stand.mode = "pass"
+    page.press("Send the same again", "#pending")
+    holds("a split entry is there once after a lost reply", count_of(stand, "keep") == 4
+          and "assets:cash  -3.00 EUR" in last_entry(stand, "keep"), last_entry(stand, "keep"))
+    page.open("register", branch="keep", account="expenses:gifts", day="2026-12-31")
+    page.press("4", "#register-report")
+    holds("a register leads to its entry", "expenses:post" in page.text("#item-report"), page.text("#item-report"))
+    page.fill("reverse", day="2026-05-02")
+    page.deed("reverse")
+    holds("an entry is reversed with the mark that names it", "bookid:back-keep-4" in last_entry(stand, "keep")
+          and "expenses:gifts  -2.00 EUR" in last_entry(stand, "keep"), last_entry(stand, "keep"))
+    holds("once: it is not offered again", "Reversed by" in page.text("#item-report")
+          and page.run("return document.getElementById('reverse-form').hidden"))
+    page.press("Copy into the form", "#item-report")
+    holds("it is copied into the form",
+          page.value("entry-amount-0") + page.value("entry-amount-1") == "1.00 EUR2.00 EUR")
 
 
 def hostile(holds, page, browser):

@@ -40,3 +40,21 @@ function add(sums, { symbol, units }) {
   sums.set(symbol, (sums.get(symbol) ?? 0n) + units);
 }
 const hasAny = sums => [...sums.values()].some(Boolean);
+// The smallest units of a number without a sign whose decimal mark is known; nothing if it has more decimals than that.
+function unitsOf(number, mark, decimals) {
+  const group = mark === "." ? "," : ".", form = `^(\\d+|\\d{1,3}(?:\\${group}\\d{3})+)(?:\\${mark}(\\d*))?$`;
+  const [, whole, part = ""] = new RegExp(form).exec(number) ?? [];
+  if (whole === undefined || /[1-9]/.test(part.slice(decimals))) return null;
+  return BigInt(whole.replaceAll(group, "") + part.slice(0, decimals).padEnd(decimals, "0"));
+}
+// An amount as a person types it. Group marks stand only where they belong, and the decimals are those of the
+// commodity: so a comma for a point is no amount, and never one that is a hundred times as large.
+function amountTyped(typed, symbol = [...styles.keys()][0]) {
+  const given = typed.trim().replaceAll("\u2212", "-").replace(/(?<=[0-9])[\u00a0\u202f](?=[0-9])/gu, "");
+  const form = new RegExp(`^([-+]?) ?(${SYMBOL})? ?([-+]?)([0-9][0-9.,]*) ?(${SYMBOL})?$`, "u");
+  const [found, outer, left, inner, number, right] = form.exec(given) ?? [];
+  const style = styles.get(left ?? right ?? symbol);
+  if (!found || !style || (left && right) || (outer && inner)) return null;
+  const units = unitsOf(number, style.mark, style.decimals);
+  return units === null ? null : { symbol: left ?? right ?? symbol, units: (outer || inner) === "-" ? -units : units };
+}

@@ -43,6 +43,16 @@ class Mistake extends Error {
     Object.assign(this, { field, key, values });
   }
 }
+function typedAccount(id) {
+  const name = $(id).value.trim();
+  if (/^[*!([]|[;\p{Cc}]|\s{2}|(^|:)(:|$)/u.test(name)) throw new Mistake(id, "account-form", { account: name });
+  return name;
+}
+function typedAmount(id) {
+  const read = amountTyped($(id).value);
+  if (!read) throw new Mistake(id, "amount-form", { amount: $(id).value, samples: samples.join(", ") });
+  return read;
+}
 // What a check shows of a command that follows the books: the entry of a closing, or what is left of a transfer.
 async function followed(request, reply) {
   if (request.do === "close") return reply.notes.filter(line => line.startsWith("  ")).join("\n");

@@ -20,6 +20,41 @@ function entryOf(written, number) {
   }
   return entry;
 }
+// The legs of an entry but for those of conversions; they are kept with it. A posting without an amount takes what is
+// left.
+const legsOf = entry => entry.legs ??= legsRead(entry);
+function legsRead({ postings }) {
+  const left = new Map(), legs = [];
+  for (const { account, amount, at, price } of postings) {
+    if (!amount) continue;
+    const read = readAmount(amount);
+    legs.push({ account, ...read });
+    add(left, at ? valueAt(read, at, price) : read);
+  }
+  const open = postings.find(one => !one.amount);
+  for (const [symbol, units] of open ? left : []) {
+    if (units) legs.push({ account: open.account, symbol, units: -units });
+  }
+  return legs;
+}
+// What a posting without an amount takes.
+const inferredOf = entry => legsOf(entry).slice(entry.postings.filter(one => one.amount).length);
+// The value of an amount with a price; the treasury has taken it, so it is exact.
+function valueAt({ symbol, units }, at, price) {
+  if (at === "@@") {
+    const cost = readAmount(price);
+    return { symbol: cost.symbol, units: units > 0n ? cost.units : units < 0n ? -cost.units : 0n };
+  }
+  const [, left, , , number, , right] = AMOUNT.exec(price), cost = left ?? right, { mark, decimals } = styles.get(cost);
+  const [whole, part = ""] = number.replaceAll(mark === "." ? "," : ".", "").split(mark);
+  const top = units * BigInt(whole + part), tens = styles.get(symbol).decimals + part.length - decimals;
+  return { symbol: cost, units: tens < 0 ? top * 10n ** BigInt(-tens) : top / 10n ** BigInt(tens) };
+}
+const sameLegs = (one, two) => {
+  const written = legs => legs.map(leg => `${leg.account}\n${printed(leg)}`).sort().join("\n");
+  return written(one) === written(two);
+};
+const OWN = /^(out|in|close):/;
 // A text that is a description as it stands: no comment, status or code begins in it.
 const limited = (value, bytes) => {
   let out = value;
@@ -28,3 +63,8 @@ const limited = (value, bytes) => {
 };
 const plain = value => limited(value.normalize("NFC").replace(/[\p{Cc}\p{Zl}\p{Zp}]/gu, " ").replaceAll(";", ",")
   .replace(/\s+/gu, " ").trim().replace(/^(?=[*!(])/, "- "), 480);
+// The text of an entry with all its amounts. `legs` may have an assertion each.
+function entryText(day, description, mark, legs) {
+  return [`${day} ${plain(description)}`.trim(), `    ; bookid:${mark}`, ...legs.map(leg =>
+    `    ${leg.account}  ${printed(leg)}${leg.asserted ? " = " + printed(leg.asserted) : ""}`), ""].join("\n");
+}

@@ -68,6 +68,7 @@ async function loadAccounts() {
 // (a long name is broken behind a colon)
 const toRegister = (account, branch) => el("a", { href: link("register", { branch, account }) },
   account.split(/(?<=:)/).map((name, at) => [at ? el("wbr") : null, shown(name)]));
+const toItem = (branch, id, inside) => el("a", { href: link("item", { branch, id }) }, inside);
 const lockState = ({ locked }) => locked ? text("locked-through", { day: locked }) : text("not-locked");
 const onPaper = what => el("p.small.soft.only-paper", { "data-printed": what });
 const printButton = () => button("print", () => print());

@@ -7,8 +7,8 @@ function journal(isSearch = false) {
   fill("journal-report", async () => {
     const book = isSearch && books.get(branch) || await bookOf(branch), wanted = $("journal-find").value.toLowerCase();
     const found = wanted ? book.filter(one => searched(one).includes(wanted)).reverse() : book.toReversed();
-    const steps = inSteps(found, 6, "entries-some", some => some.map(({ number, written }) =>
-      el("pre", { tabindex: "0", "aria-label": `${text("entry-number")} ${number}` }, shown(written))));
+    const steps = inSteps(found, 6, "entries-some", some => some.map(({ number, written }) => el("div.entry", {},
+      toItem(branch, number, `${text("entry-number")} ${number}`), el("pre", {}, shown(written)))));
     return [buttons(button("save", () => saveJournal(branch, book), ".main")),
       wanted ? el("p", {}, found.length ? text("found-of", { n: found.length, all: book.length }) : text("no-entries"))
         : null, steps];

@@ -28,7 +28,7 @@ function registerTable(whole) {
     return made;
   }));
   const row = ([day, entry, amount, sum, name, description]) => el("tr", {},
-    el("td.day", {}, day), named("entry-number", shown(entry)),
+    el("td.day", {}, day), named("entry-number", toItem(branch, entry, entry)),
     el("td.name.across", {}, shown(description)),
     hasAccounts ? el("td.name.across", {}, toRegister(name, branch)) : null,
     amountCell(amount), amountCell(sum, { "data-name": text("running") }));

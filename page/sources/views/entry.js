@@ -1,0 +1,104 @@
+// ---------- A new entry, by a form ----------
+
+// The mark is made before the first try, and stays until the treasury has said that the entry is there.
+let entryMark = "", entryLines = 0;
+function addLine(account = "", amount = "") {
+  const at = entryLines++, ids = [`entry-to-${at}`, `entry-amount-${at}`], readAs = el("span.soft.small");
+  const read = el("input", { id: ids[1], required: true, autocomplete: "off", spellcheck: "false", inputmode: "text" });
+  const show = () => {
+    const found = amountTyped(read.value), form = phrase("samples", { samples: samples.join(", ") });
+    readAs.replaceChildren(...(found ? ["= ", shown(printed(found))] : form));
+    showSum();
+  };
+  read.addEventListener("input", show);
+  const label = (id, key) => el("label", { for: id, "data-text": key }, text(key));
+  const line = el("div.fields.line", {},
+    el("div.field", {}, label(ids[0], "to-account"), el("input", { id: ids[0], list: "accounts", required: true,
+      autocomplete: "off", spellcheck: "false", value: account })),
+    el("div.field", {}, label(ids[1], "amount"), read, readAs),
+    at ? el("div.field.end", {}, button("remove-line", () => { line.remove(); showSum(); })) : null);
+  read.value = amount;
+  $("entry-lines").append(line);
+  show();
+}
+const lineIds = () => all("#entry-lines .line").map(line => [...line.querySelectorAll("input")].map(one => one.id));
+function showSum() {
+  const sums = new Map(), ids = lineIds();
+  for (const [, id] of ids) {
+    const read = amountTyped($(id).value);
+    if (read) add(sums, read);
+  }
+  $("entry-sum").replaceChildren(...(ids.length > 1 ? [`${text("sum")}: `, [...sums].map(([symbol, units]) =>
+    printAmount(symbol, units)).join(", ")] : []));
+}
+function resetEntry() {
+  entryMark = "";
+  entryLines = 0;
+  for (const name of ["entry-what", "entry-from", "entry-says"]) $(name).value = "";
+  $("entry-lines").replaceChildren();
+  if (styles.size) addLine();
+}
+// The legs that the form says: those of its lines, and what the account in front gives or takes.
+function entryLegs() {
+  const from = typedAccount("entry-from"), left = new Map();
+  const legs = lineIds().map(([account, amount]) => {
+    const read = typedAmount(amount);
+    add(left, read);
+    return { account: typedAccount(account), ...read };
+  });
+  for (const [symbol, units] of left) legs.push({ account: from, symbol, units: -units });
+  if (!$("entry-says").value.trim()) return legs;
+  const asserted = typedAmount("entry-says"), isFrom = $("entry-says-of").value === "from";
+  const account = isFrom ? from : legs[0].account;
+  const leg = legs.findLast(one => one.account === account && one.symbol === asserted.symbol);
+  if (!leg) throw new Mistake("entry-says", "says-other", { amount: printed(asserted), account });
+  leg.asserted = asserted;
+  return legs;
+}
+function entryRequest() {
+  entryMark ||= "p-" + randomText(16);
+  const journal = entryText(valueOf("entry-day"), valueOf("entry-what"), entryMark, entryLegs());
+  return { do: "import", branch: view.branch, journal };
+}
+function showEntry() {
+  propose("entry-day", today());
+  if (!lineIds().length) resetEntry();
+  for (const [, id] of lineIds()) $(id).dispatchEvent(new Event("input"));
+  loadAccounts().catch(() => {});
+  fill("entry-known", async () => {
+    const book = await bookOf(view.branch), known = [...new Set(book.toReversed().map(one => one.description))];
+    $("descriptions").replaceChildren(...known.slice(0, 300).map(value => el("option", { value })));
+    return [];
+  });
+}
+// The accounts of the newest entry with the same description, where none is chosen yet.
+function proposeAccounts() {
+  const found = books.get(view.branch)?.findLast(one => one.description === valueOf("entry-what"));
+  const [[first]] = lineIds();
+  if (found && !valueOf("entry-from") && !valueOf(first)) putEntry(found, false);
+}
+// Puts an entry into the form: in front stands the account of its largest leg.
+function putEntry(entry, isWhole) {
+  const legs = legsOf(entry), size = ({ units }) => units < 0n ? -units : units;
+  const front = legs.reduce((most, leg) => size(leg) > size(most) || (size(leg) === size(most) && leg.units < 0n) ? leg
+    : most);
+  $("entry-from").value = front.account;
+  $("entry-lines").replaceChildren();
+  entryLines = 0;
+  for (const leg of legs) if (leg.account !== front.account) addLine(leg.account, isWhole ? printed(leg) : "");
+  if (isWhole) $("entry-what").value = entry.description;
+}
+// A receipt that is there already, as after a reply that was lost: a further one like it gets a mark of its own.
+const entryThere = () => [el("p", {}, text("entry-there")), buttons(button("one-more-like-it", once(() => {
+  entryMark = "";
+  return attempt(FORMS.entry);
+})))];
+
+VIEWS.entry = { group: "enter", show: showEntry, hasBranch: true };
+FORMS.entry = {
+  request: entryRequest, preview: entryPreview, nothing: entryThere, button: "enter-now",
+  refused: ({ number }) => number === 24 ? entryThere() : null,
+  settled: ({ journal }) => { if (entryMark && journal?.includes(`bookid:${entryMark}\n`)) resetEntry(); },
+};
+$("entry-more").addEventListener("click", () => addLine());
+$("entry-what").addEventListener("change", proposeAccounts);
