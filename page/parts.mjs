@@ -3,10 +3,10 @@
 import fs from "node:fs";
 import util from "node:util";
 
-const SOURCES = ["amounts.js", "days.js", "interface.js", "entries.js", "pending.js", "commands.js", "tree.js",
-  "chart.js"];
-const NAMES = ["learnStyles", "readAmount", "printAmount", "amountTyped", "dayNumber", "understood", "entryOf",
-  "legsOf", "plain", "entryText", "keyOf", "isUndecided", "treeOf", "ticks"];
+const SOURCES = ["amounts.js", "days.js", "interface.js", "entries.js", "accounts.js", "pending.js", "commands.js",
+  "tree.js", "chart.js"];
+const NAMES = ["learnStyles", "readAmount", "printAmount", "amountTyped", "dayNumber", "dayBefore", "yearBefore",
+  "understood", "entryOf", "legsOf", "kindOf", "plain", "entryText", "keyOf", "isUndecided", "treeOf", "ticks"];
 const written = SOURCES.map(name => fs.readFileSync(new URL("sources/" + name, import.meta.url), "utf-8")).join("");
 const page = new Function(`"use strict";\n${written}\nreturn { ${NAMES.join()} };`)();
 
@@ -96,6 +96,18 @@ gives("an entry's text", () => page.entryText("2026-05-01", "tea; milk", "p-1", 
     a  8.50 EUR
     b  -8.50 EUR = 91.50 EUR
 `);
+
+// Days, and what an account is by its name
+const DAYS = [["dayBefore", "2026-03-01", "2026-02-28"], ["dayBefore", "2024-03-01", "2024-02-29"],
+  ["dayBefore", "2026-01-01", "2025-12-31"], ["dayBefore", "0001-01-01", null],
+  ["yearBefore", "2024-02-29", "2023-02-28"], ["yearBefore", "2025-02-28", "2024-02-28"],
+  ["yearBefore", "2026-12-31", "2025-12-31"]];
+for (const [name, day, wanted] of DAYS) gives(`${name} of ${day}`, () => page[name](day), wanted);
+const ACCOUNTS = [["income:dues", "income"], ["Revenues", "income"], ["expenses:hall", "expense"],
+  ["Aufwand:Miete", "expense"], ["assets:bank", "asset"], ["assets:transit:a:b", "transit"],
+  ["assets:transit", "transit"], ["assets:transition", "asset"], ["liabilities:loan", "liability"], ["Vermögen:Kasse", "asset"],
+  ["equity:opening", "other"], ["incomes and more", "other"]];
+for (const [name, kind] of ACCOUNTS) gives(`what ${name} is`, () => page.kindOf(name), kind);
 
 // Replies
 const done = { answer: "ok", told: [], notes: [] };

@@ -38,8 +38,8 @@ HOSTILE = """2026-03-01 <script>document.title='owned'</script>
     assets:a&tag=b?c#d%41+e  6.00 EUR
     equity:opening
 """
-VIEWS = ("overview", "balance", "register", "transit", "journal", "item", "entry", "import", "send", "receive",
-         "lock", "close", "setup")
+VIEWS = ("overview", "balance", "register", "statement", "transit", "journal", "item", "entry", "import", "send",
+         "receive", "lock", "close", "setup")
 
 
 # A third of a second for the page, which is a tenth of that here: what was started has begun
@@ -149,7 +149,7 @@ def try_all(tally, browser, stand, wanted):
     """Tries each walk, in one tab."""
     page = Page(browser, stand)
     walks = (first_day, imports, looking, sending, troubles, tabs, receiving, finishing, faults, journals, overview,
-             keeping, hostile, styles, broken, rights, others, german, access, large)
+             keeping, statements, hostile, styles, broken, rights, others, german, access, large)
     for walk in walks:
         if wanted and walk.__name__ not in wanted:
             continue
@@ -860,6 +860,20 @@ def keeping(holds, page, browser):
     page.press("Copy into the form", "#item-report")
     holds("it is copied into the form",
           page.value("entry-amount-0") + page.value("entry-amount-1") == "1.00 EUR2.00 EUR")
+
+
+def statements(holds, page, browser):
+    """A year's statement is the same before and after its closing."""
+    stand = page.stand
+    page.open("statement", branch="keep", **{"from": "2026-01-01", "to": "2026-12-31"})
+    before = page.text("#statement-report")
+    holds("it has expenses, surplus and assets",
+          all(it in before for it in ("17.00 EUR", "-17.00 EUR", "83.00 EUR")), before)
+    stand.do(what="close", branch="keep", day="2026-12-31")
+    page.open("statement", branch="keep", **{"from": "2026-01-01", "to": "2026-12-31"})
+    holds("and is the same after the closing", page.text("#statement-report") == before, page.text("#statement-report"))
+    page.open("statement", branch="keep", of="all", **{"from": "2026-01-01", "to": "2026-12-31"})
+    holds("all branches stand below one another", "centre" in page.text("#statement-report"))
 
 
 def hostile(holds, page, browser):

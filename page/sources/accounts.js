@@ -7,6 +7,7 @@ const KIND_NAMES = {
   asset: /^(assets?|vermögen|aktiva|guthaben)$/i,
   liability: /^(liabilit(y|ies)|debts?|verbindlichkeit(en)?|schulden)$/i,
 };
+const KINDS = ["income", "expense", "asset", "liability", "other"];
 const firstPart = account => account.split(":")[0];
 const isTransit = account => account === "assets:transit" || account.startsWith("assets:transit:");
 function kindOf(account) {

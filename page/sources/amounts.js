@@ -39,6 +39,12 @@ const zeroSymbol = () => [...styles.keys()][0];
 function add(sums, { symbol, units }) {
   sums.set(symbol, (sums.get(symbol) ?? 0n) + units);
 }
+const plus = (...all) => {
+  const out = new Map();
+  for (const sums of all) for (const [symbol, units] of sums) add(out, { symbol, units });
+  return out;
+};
+const turnedSums = sums => new Map([...sums].map(([symbol, units]) => [symbol, -units]));
 const hasAny = sums => [...sums.values()].some(Boolean);
 // The smallest units of a number without a sign whose decimal mark is known; nothing if it has more decimals than that.
 function unitsOf(number, mark, decimals) {
