@@ -2,11 +2,13 @@
 // The last line is `parts: N passed, M failed`.
 import fs from "node:fs";
 import util from "node:util";
+import { ROWS } from "./samples/rows.mjs";
 
-const SOURCES = ["amounts.js", "days.js", "interface.js", "entries.js", "accounts.js", "pending.js", "commands.js",
-  "tree.js", "chart.js"];
+const SOURCES = ["amounts.js", "days.js", "interface.js", "entries.js", "accounts.js", "bank-files.js", "pending.js",
+  "commands.js", "tree.js", "chart.js"];
 const NAMES = ["learnStyles", "readAmount", "printAmount", "amountTyped", "dayNumber", "dayBefore", "yearBefore",
-  "understood", "entryOf", "legsOf", "kindOf", "plain", "entryText", "keyOf", "isUndecided", "treeOf", "ticks"];
+  "understood", "entryOf", "legsOf", "kindOf", "plain", "entryText", "keyOf", "isUndecided", "treeOf", "ticks",
+  "decoded", "fileKind", "dayRead", "unitsRead", "csvSetting", "readCsv", "readXml", "readCamt", "readMt940", "sameAccount"];
 const written = SOURCES.map(name => fs.readFileSync(new URL("sources/" + name, import.meta.url), "utf-8")).join("");
 const page = new Function(`"use strict";\n${written}\nreturn { ${NAMES.join()} };`)();
 
@@ -105,8 +107,8 @@ const DAYS = [["dayBefore", "2026-03-01", "2026-02-28"], ["dayBefore", "2024-03-
 for (const [name, day, wanted] of DAYS) gives(`${name} of ${day}`, () => page[name](day), wanted);
 const ACCOUNTS = [["income:dues", "income"], ["Revenues", "income"], ["expenses:hall", "expense"],
   ["Aufwand:Miete", "expense"], ["assets:bank", "asset"], ["assets:transit:a:b", "transit"],
-  ["assets:transit", "transit"], ["assets:transition", "asset"], ["liabilities:loan", "liability"], ["Vermögen:Kasse", "asset"],
-  ["equity:opening", "other"], ["incomes and more", "other"]];
+  ["assets:transit", "transit"], ["assets:transition", "asset"], ["liabilities:loan", "liability"],
+  ["Vermögen:Kasse", "asset"], ["equity:opening", "other"], ["incomes and more", "other"]];
 for (const [name, kind] of ACCOUNTS) gives(`what ${name} is`, () => page.kindOf(name), kind);
 
 // Replies
@@ -152,6 +154,55 @@ gives("a command's key is that of its values in any order", () => page.keyOf({ d
   page.keyOf({ day: "d", do: "lock", branch: "n" }));
 gives("another journal has another key", () => page.keyOf({ do: "import", journal: "ab" })
   === page.keyOf({ do: "import", journal: "ac" }), false);
+
+// Files of banks
+const money = units => page.printAmount("EUR", units).replaceAll(",", "").replace(" EUR", "");
+function readFile(name) {
+  const bytes = new Uint8Array(fs.readFileSync(new URL("samples/" + name, import.meta.url)));
+  const { written } = page.decoded(bytes), kind = page.fileKind(written), setting = page.csvSetting(written);
+  const [read] = kind === "csv" ? [page.readCsv(written, setting, 2)]
+    : (kind === "xml" ? page.readCamt : page.readMt940)(written, () => 2);
+  return [read, setting, kind];
+}
+function statementOf(name) {
+  const [{ account, lines, opening, closings, skipped, unread, gap }, { delimiter, order, mark, columns }, kind]
+    = readFile(name);
+  const lineOf = ({ day, units, payee, purpose, reference, balance }) => {
+    const all = [day, money(units), payee, purpose, reference, balance === null ? "" : money(balance)];
+    return all.slice(0, all.findLastIndex(Boolean) + 1);
+  };
+  return { file: name,
+    ...(kind === "csv" ? { read: [delimiter, order, mark],
+      columns: Object.fromEntries(Object.entries(columns).filter(([, at]) => at >= 0)) } : { account }),
+    lines: lines.map(lineOf), ...(opening === null ? {} : { opening: money(opening) }),
+    ...(closings.length ? { closings: closings.map(({ day, units }) => `${day} ${money(units)}`) } : {}),
+    ...(skipped ? { skipped } : {}), ...(unread.length ? { unread } : {}), ...(gap ? { gap } : {}) };
+}
+for (const row of ROWS) gives(row.file, () => statementOf(row.file), row);
+const UNITS = [["1.234,50-", ",", -123450n], ["CHF 1'234.50", ".", 123450n], ["12,345", ",", null],
+  ["12,340", ",", 1234n], ["\u22125,00 €", ",", -500n], ["(5.00)", ".", -500n], ["5,00 S", ",", -500n],
+  ["5,00 H", ",", 500n],
+  [",50", ",", 50n], ["1.234.50", ".", null], ["five", ".", null]];
+for (const [written, mark, units] of UNITS) {
+  gives(`${written} of a bank`, () => page.unitsRead(written, mark, 2), units);
+}
+const READ_DAYS = [["31.02.2026", "dmy", null], ["20261103", "dmy", "2026-11-03"], ["3.11.26", "dmy", "2026-11-03"],
+  ["2026-11-03T00:00:00Z", "dmy", "2026-11-03"], ["11/03/2026", "mdy", "2026-11-03"],
+  ["11/03/2026", "dmy", "2026-03-11"], ["29.02.2025", "dmy", null], ["3", "dmy", null]];
+for (const [written, order, day] of READ_DAYS) {
+  gives(`the day ${written}, ${order}`, () => page.dayRead(written, order), day);
+}
+for (const written of ['<!DOCTYPE x [<!ENTITY a "b">]><x>&a;</x>', "<a><b></a>", "<a></a></a>", "<a", "<a><b/></a"]) {
+  gives(`${written} is not read`, () => page.readXml(written), null);
+}
+gives("an element with a prefix and an attribute with >", () => page.readXml('<n:a x="1>2">t&amp;&#228;<n:b/></n:a>')
+  .inside.map(one => [one.name, one.written, one.inside.map(({ name }) => name)]), [["a", "t&ä", ["b"]]]);
+const UNEVEN = "Datum;Betrag;Saldo\n01.11.2026;1,00;101,00\n02.11.2026;2,00;104,00\n03.11.2026;1,00;105,00\n";
+gives("a file that lacks a line is found out", () => page.readCsv(UNEVEN, page.csvSetting(UNEVEN), 2).gap?.day,
+  "2026-11-02");
+const WRONG = "Datum;Betrag;Zweck\n01.11.2026;1,00;a\n31.02.2026;2,00;b\n03.11.2026;1,005;c\n";
+gives("what cannot be read is kept", () => page.readCsv(WRONG, page.csvSetting(WRONG), 2).unread.map(({ at }) => at),
+  [3, 4]);
 
 // The tree: sums with subaccounts
 gives("an account has the sum of its subaccounts", () => {

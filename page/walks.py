@@ -38,8 +38,8 @@ HOSTILE = """2026-03-01 <script>document.title='owned'</script>
     assets:a&tag=b?c#d%41+e  6.00 EUR
     equity:opening
 """
-VIEWS = ("overview", "balance", "register", "statement", "transit", "journal", "item", "entry", "import", "send",
-         "receive", "lock", "close", "setup")
+VIEWS = ("overview", "balance", "register", "statement", "transit", "journal", "item", "entry", "bank", "import",
+         "send", "receive", "lock", "close", "setup")
 
 
 # A third of a second for the page, which is a tenth of that here: what was started has begun
@@ -149,7 +149,7 @@ def try_all(tally, browser, stand, wanted):
     """Tries each walk, in one tab."""
     page = Page(browser, stand)
     walks = (first_day, imports, looking, sending, troubles, tabs, receiving, finishing, faults, journals, overview,
-             keeping, statements, hostile, styles, broken, rights, others, german, access, large)
+             keeping, bank_files, statements, hostile, styles, broken, rights, others, german, access, large)
     for walk in walks:
         if wanted and walk.__name__ not in wanted:
             continue
@@ -736,7 +736,8 @@ def journals(holds, page, browser):
     holds("a mark of the treasury is no text of an entry", "No entry has that" in page.text("#journal-report"))
     page.put("journal-find", "fLoWers")
     page.settle()
-    holds("how many have it is said", "Found in 1 of" in page.text("#journal-report"), page.text("#journal-report")[:200])
+    holds("how many have it is said", "Found in 1 of" in page.text("#journal-report"),
+          page.text("#journal-report")[:200])
     holds("and no letter typed asks the treasury", len(stand.seen) == asked, stand.seen[asked:][:2])
     page.press("Save as a file", "#journal-report")
     page.tab.until(lambda: list(downloads.glob("north-*.journal")), "the journal is saved")
@@ -860,6 +861,66 @@ def keeping(holds, page, browser):
     page.press("Copy into the form", "#item-report")
     holds("it is copied into the form",
           page.value("entry-amount-0") + page.value("entry-amount-1") == "1.00 EUR2.00 EUR")
+
+
+BANK = """Kontostand vom %s:;%s EUR
+
+Buchungstag;Empfänger;Verwendungszweck;Betrag
+%s"""
+BANK_LINES = ["12.05.2026;Anna;Beitrag;50,00", "11.05.2026;Bank;Gebühr;-2,50", "11.05.2026;Bank;Gebühr;-2,50",
+              "04.05.2026;Post;Porto;-9,50"]
+
+
+def bank_files(holds, page, browser):
+    """A bank's file: entered once, overlapping, with an entry made by hand, and with a balance that does not fit."""
+    stand = page.stand
+    stand.do(what="branch", name="giro")
+    stand.do(what="import", branch="giro",
+             journal="2026-01-01 opening\n  assets:giro  1,000.00 EUR\n  equity:opening\n\n2026-05-03 stamps\n"
+             "  expenses:post  9.50 EUR\n  assets:giro\n\n2026-03-01 Anna | Beitrag\n"
+             "  assets:giro  0.50 EUR\n  income:dues\n\n2026-03-01 back\n  assets:giro  -0.50 EUR\n  income:dues\n")
+
+    def choose(name, lines, day, balance):
+        path = stand.folder / name
+        path.write_bytes((BANK % (day, balance, "\n".join(lines))).encode("windows-1252"))
+        page.tab.files("#bank-file", path)
+        page.run(PAUSE)
+        page.settle()
+
+    page.open("bank", branch="giro")
+    choose("half.csv", BANK_LINES[1:], "11.05.2026", "985,50")
+    page.put("bank-account", "assets:giro")
+    page.settle()
+    said = page.text("#bank-lines")
+    holds("the lines are read, in time, and one is like an entry", "3: 2 to enter, 0 there already, 1 like" in said
+          and "like entry 2 of 2026-05-03" in said, said)
+    holds("a counter-account is asked for", "A counter-account is missing" in page.check("bank"), page.text())
+    page.put("bank-counter-1", "expenses:bank")
+    holds("it goes to the other line of that payee", page.value("bank-counter-2") == "expenses:bank")
+    said = page.deed("bank")
+    holds("two equal lines are two entries, and the balance an assertion", "3 entries are new" in said
+          and last_entry(stand, "giro").endswith("0.00 EUR = 985.50 EUR"), said)
+    holds("the same file again changes nothing", "already there: 3" in page.check("bank"), page.text())
+    choose("whole.csv", BANK_LINES, "31.05.2026", "1.035,50")
+    holds("what overlaps is there, and a counter-account is known", "4: 1 to enter, 2 there already, 1 like"
+          in page.text("#bank-lines") and page.value("bank-counter-3") == "income:dues", page.text("#bank-lines"))
+    said = page.deed("bank")
+    holds("only the rest is new", "2 entries are new, already there: 2" in said, said)
+    stand.do(what="import", branch="giro", journal="2026-06-02 wrong\n  expenses:post  7.00 EUR\n  assets:giro\n")
+    choose("june.csv", ["05.06.2026;Anna;Beitrag;10,00"], "30.06.2026", "1.045,50")
+    said = page.text("#bank-lines")
+    holds("a difference is told before, with what may be the reason",
+          "-7.00 EUR" in said and "2026-06-02 wrong" in said, said)
+    holds("and the treasury refuses it", "29 ClaimFailed" in page.check("bank"), page.text())
+    stand.do(what="branch", name="sender")
+    stand.do(what="dispatch", id="t-bank", **{"from": "sender"}, to="giro", day="2026-06-01", amount="60.00 EUR",
+             account="assets:bank")
+    choose("sent.csv", ["05.06.2026;Sender;t-bank;60,00"], "30.06.2026", "1.095,50")
+    holds("money of another branch is to be received", "transfer t-bank from sender: receive it" in
+          page.text("#bank-lines") and "1: 0 to enter" in page.text("#bank-lines"), page.text("#bank-lines"))
+    page.press("transfer t-bank from sender: receive it, so left out", "#bank-lines")
+    holds("the receipt is filled in", [page.value(f"receive-{it}") for it in ("id", "day", "account")]
+          == ["t-bank", "2026-06-05", "assets:giro"])
 
 
 def statements(holds, page, browser):
