@@ -149,7 +149,7 @@ def try_all(tally, browser, stand, wanted):
     """Tries each walk, in one tab."""
     page = Page(browser, stand)
     walks = (first_day, imports, looking, sending, troubles, tabs, receiving, finishing, faults, journals, overview,
-             keeping, bank_files, statements, hostile, styles, broken, rights, others, german, access, large)
+             keeping, bound, bank_files, statements, hostile, styles, broken, rights, others, german, access, large)
     for walk in walks:
         if wanted and walk.__name__ not in wanted:
             continue
@@ -861,6 +861,71 @@ def keeping(holds, page, browser):
     page.press("Copy into the form", "#item-report")
     holds("it is copied into the form",
           page.value("entry-amount-0") + page.value("entry-amount-1") == "1.00 EUR2.00 EUR")
+
+
+def bound(holds, page, browser):
+    """What is done is what was shown: others make entries between a check and its deed, or before a repeat."""
+    stand = page.stand
+    stand.do(what="branch", name="pair")
+    stand.do(what="import", branch="pair", journal="2026-01-01 opening\n  assets:cash  100.00 EUR\n  income:dues\n")
+    page.open("import", branch="pair")
+    if '"entries"' not in page.run("""return (await fetch(location.origin + '/commands/pair', { method: 'POST',
+            headers: { Accept: 'application/json' }, body: JSON.stringify({ do: 'lock', branch: 'pair',
+            day: '2020-01-01', 'dry-run': 'yes' }) })).text()"""):
+        return print("bound: skipped, as this program tells a dry run no number of entries")
+
+    def other(day):
+        answer = stand.do(what="import", branch="pair", journal=f"2026-02-{day} other\n  expenses:tea  1.00 EUR\n"
+                                                                "  assets:cash\n")
+        holds(f"another makes an entry on {day}", answer == "ok 1 new, 0 repeated", answer)
+
+    page.put("import-text", "2026-03-01 milk\n  expenses:milk  2.00 EUR\n  assets:cash\n")
+    page.check("import")
+    other("01")
+    page.press("Import", "#outcome")
+    said = page.text()
+    holds("what has changed is shown, and asked anew", "other entries were made in between" in said
+          and "Entry 2, 2026-02-01 other" in said and "1 entry would be new" in said, said)
+    holds("nothing was entered", count_of(stand, "pair") == 2)
+    page.press("Import", "#outcome")
+    holds("then it is done, and the entry is shown", count_of(stand, "pair") == 3 and "1 entry is new" in page.text()
+          and "expenses:milk  2.00 EUR" in page.text("#outcome pre"), page.text())
+    page.put("import-text", "2026-03-02 milk\n  expenses:milk  2.00 EUR\n  assets:cash\n")
+    page.check("import")
+    stand.mode = "lose"
+    page.press("Import", "#outcome")
+    stand.mode = "pass"
+    other("02")
+    page.press("Send the same again", "#pending")
+    holds("an import whose reply was lost is there, whatever came since", "already there: 1" in page.text()
+          and '"if-entries":"3"' in stand.deeds("import")[-1] and count_of(stand, "pair") == 5, page.text())
+    page.put("import-text", "2026-03-03 milk\n  expenses:milk  2.00 EUR\n  assets:cash\n")
+    page.check("import")
+    stand.mode = "cut"
+    page.press("Import", "#outcome")
+    stand.mode = "pass"
+    other("03")
+    page.tab.reload()
+    page.settle()
+    page.press("Send the same again", "#pending")
+    said = page.text()
+    holds("one that was not done is not done behind another's entry", "other entries were made in between" in said
+          and "Entry 6, 2026-02-03 other" in said and "expenses:milk  2.00 EUR" in said
+          and count_of(stand, "pair") == 6 and page.text("#pending") == "", said)
+    page.open("close", branch="pair")
+    page.fill("close", day="2026-12-31")
+    page.check("close")
+    other("04")
+    page.press("Close", "#outcome")
+    said = page.text()
+    holds("a closing that would be another one is shown anew", "other entries were made in between" in said
+          and "expenses:tea  -4.00 EUR = 0.00 EUR" in said and "close:" not in last_entry(stand, "pair"), said)
+    stand.mode = "lose"
+    page.press("Close", "#outcome")
+    stand.mode = "pass"
+    page.press("Send the same again", "#pending")
+    holds("a closing whose reply was lost is repeated, and shown", "done before" in page.text()
+          and "close:2026-12-31" in page.text("#outcome pre") and count_of(stand, "pair") == 8, page.text())
 
 
 BANK = """Kontostand vom %s:;%s EUR

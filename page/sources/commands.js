@@ -53,26 +53,10 @@ function typedAmount(id) {
   if (!read) throw new Mistake(id, "amount-form", { amount: $(id).value, samples: samples.join(", ") });
   return read;
 }
-// What a check shows of a command that follows the books: the entry of a closing, or what is left of a transfer.
-async function followed(request, reply) {
-  if (request.do === "close") return reply.notes.filter(line => line.startsWith("  ")).join("\n");
-  if (request.do !== "receive" || request.part) return "";
-  return (await report("/transfers/" + FOREVER)).find(row => row[5] === request.id)?.[2] ?? "";
-}
-// Does what was checked, if the books have not changed it since: otherwise that is shown, and asked again.
-async function bound(request, also, seen) {
-  if (!seen) return command(request);
-  setBusy(true);
-  const reply = await ask(commandPath(request), { ...request, "dry-run": "yes" });
-  const now = reply.kind === "done" ? await followed(request, reply).catch(() => seen) : seen;
-  setBusy(false);
-  return now === seen ? command(request) : check(request, { ...also, isChanged: true });
-}
-// The entry that a closing has made, out of the book.
-async function showClosed({ branch, day }) {
-  const made = (await bookOf(branch).catch(() => [])).find(({ mark }) => mark === "close:" + day);
-  const shownEntry = () => [el("h3", {}, text("entry-made")), el("pre", { tabindex: "0" }, shown(made.written))];
-  if (made) $("outcome").firstChild?.append(...shownEntry());
+// What is left of a transfer that is to be received as a whole.
+async function leftOf(request) {
+  if (request.do !== "receive" || request.part) return null;
+  return (await report("/transfers/" + FOREVER)).find(row => row[5] === request.id)?.[2] ?? null;
 }
 // An amount that was read otherwise than it looks is confirmed by itself, before the button works.
 function confirmed(notes, act) {
@@ -98,38 +82,47 @@ async function attempt(form) {
   }
   await check(request, form);
 }
-// Asks what a command would do, and shows that with a button that does it: the very same request. `also` has what is
-// shown beside it: a preview, what is said if nothing is new or if it is refused, and the button's text.
-async function check(request, also = {}) {
+// Asks what a command would do, and shows that. Where others have made entries since it was last shown, when the branch
+// had `before` of them, these are shown too.
+async function check(request, form = {}, before = null) {
   if (isOpenKind(request)) return tell(panel("wait", el("p", {}, text("one-open"))));
   setBusy(true);
-  const reply = await ask(commandPath(request), { ...request, "dry-run": "yes" });
-  setBusy(false);
-  if (reply.kind === "refused") return tell(refusal(reply, request, "nothing-done", also.refused?.(reply)));
-  if (reply.kind === "denied") return tell(denial(reply, request, "not-checked"));
-  if (reply.kind === "unknown") {
-    return tell(panel("wait", el("p", {}, el("strong", {}, reply.why)), el("p", {}, text("not-checked")),
-      buttons(button("try-again", once(() => check(request, also))))));
+  try {
+    const what = await checked(request, form, await ask(commandPath(request), { ...request, "dry-run": "yes" }));
+    if (before !== null) what.prepend(...await madeSince(branchOf(request), Number(before)));
+    tell(what);
+  } finally {
+    setBusy(false);
   }
-  if (reply.kind === "repeated") return tell(panel("good", el("p", {}, text("would-repeat")), described(request)));
-  const { added, old } = reply;
-  if (added === 0) return tell(panel("good", el("p", {}, text("nothing-new", { old })), also.nothing?.()));
-  setBusy(true);
-  const [seen, more] = await Promise.all([followed(request, reply), also.preview?.(request, reply)])
-    .catch(() => ["", el("p.small", {}, text("no-preview"))]).finally(() => setBusy(false));
-  const act = button(also.button ?? "do-" + request.do, once(() => bound(request, also, seen)), ".main");
-  tell(panel("ask", also.isChanged ? el("p", {}, el("strong", {}, text("has-changed"))) : null,
+}
+// What is said of a dry run: if it can be done, with a button that does the very same, unless the branch has got other
+// entries meanwhile.
+async function checked(request, form, reply) {
+  if (reply.kind === "refused") return refusal(reply, request, "nothing-done", form.refused?.(reply));
+  if (reply.kind === "denied") return denial(reply, request, "not-checked");
+  if (reply.kind === "unknown") {
+    return panel("wait", el("p", {}, el("strong", {}, reply.why)), el("p", {}, text("not-checked")),
+      buttons(button("try-again", once(() => check(request, form)))));
+  }
+  if (reply.kind === "repeated") return panel("good", el("p", {}, text("would-repeat")), described(request));
+  const { added, old, entries } = reply;
+  if (added === 0) return panel("good", el("p", {}, text("nothing-new", { old })), form.nothing?.());
+  const [left, more] = await Promise.all([leftOf(request), form.preview?.(request, reply)])
+    .catch(() => [null, el("p.small", {}, text("no-preview"))]);
+  const bound = entries === undefined ? request : { ...request, "if-entries": entries };
+  const act = button(form.button ?? "do-" + request.do, once(() => command(bound, form)), ".main");
+  return panel("ask",
     el("p", {}, el("strong", {}, added === undefined ? text("checked") : text("would-import", { n: added, old }))),
-    added === undefined ? described(request, request.do === "receive" && seen ? [[text("left"), seen]] : []) : null,
-    more, remarks(reply.notes, Boolean(also.preview)), el("p.small", {}, text("no-undo")), confirmed(reply.notes, act),
-    buttons(act)));
+    added === undefined ? described(request, left === null ? [] : [[text("amount"), left]]) : null,
+    more, remarks(reply.notes, Boolean(form.preview)), el("p.small", {}, text("no-undo")), confirmed(reply.notes, act),
+    buttons(act));
 }
 // Sends a command until a whole reply comes, three times by itself: the same request with the same ID, which the
-// treasury does once. What has had no reply is kept in the browser until it has one.
-async function command(request) {
+// treasury does once. What has had no reply is kept in the browser until it has one, with its form.
+async function command(request, form = {}) {
   if (isOpenKind(request)) return tell(panel("wait", el("p", {}, text("one-open"))));
   const key = keyOf(request), had = pendings.get(key);
-  const one = { key, request, when: had?.when ?? new Date().toISOString(), isBusy: true };
+  const one = { key, request, form: form.name, when: had?.when ?? new Date().toISOString(), isBusy: true };
   pendings.set(key, one);
   setBusy(true);
   keepPending(one);
@@ -147,14 +140,43 @@ async function command(request) {
     const isOpen = isUndecided(reply, mayBeDone);
     if (!isOpen) dropPending(key);
     showPendings();
+    if (reply.number === CHANGED) return await checkAnew(request, form);
     tell(outcome(reply, request, isOpen, mayBeDone));
     if (["done", "repeated", "imported"].includes(reply.kind)) {
       await settle(request);
-      if (request.do === "close") await showClosed(request);
+      await showMade(request, reply);
     }
   } finally {
     setBusy(false);
   }
+}
+// The branch has other entries than when the command was checked: nothing was done, and it is asked anew.
+const CHANGED = 48;
+async function checkAnew({ "if-entries": before, ...request }, form) {
+  await loadFederation().catch(() => {});
+  changeView();
+  await check(request, form, before);
+}
+const entryLinks = (branch, entries) => el("ul", {}, entries.slice(0, 8).map(({ number, day, description }) =>
+  el("li", {}, toItem(branch, number, [text("entry-number"), ` ${number}, ${day} `, shown(description)]))),
+entries.length > 8 ? el("li", {}, text("further", { n: entries.length - 8 })) : null);
+async function madeSince(branch, count) {
+  const made = (await bookOf(branch).catch(() => [])).slice(count);
+  return [el("p", {}, el("strong", {}, text("has-changed"))), made.length ? entryLinks(branch, made) : ""];
+}
+// Shows the entries that a command has made, out of the book: those with its mark, or the ones behind those that it was
+// bound to.
+const MARKS = { dispatch: ({ id }) => "out:" + id, receive: ({ id, part }) => `in:${id}${part ? ":" + part : ""}`,
+  close: ({ day }) => "close:" + day };
+async function showMade(request, { added = 0 }) {
+  const branch = branchOf(request), mark = MARKS[request.do]?.(request), count = Number(request["if-entries"]);
+  const place = $("outcome").firstChild;
+  if (!mark && !added) return;
+  const book = await bookOf(branch).catch(() => []);
+  const made = mark ? book.filter(one => one.mark === mark) : book.slice(count, count + added);
+  if (!made.length || place !== $("outcome").firstChild) return;
+  place.append(el("h3", {}, text("entries-made", { n: made.length })), made.length > 1 ? entryLinks(branch, made)
+    : el("pre", { tabindex: "0" }, shown(made[0].written)));
 }
 // Whether a reply leaves open what became of the command. 41 may have been done; 40, 42, 43 and the server's own
 // refusals say nothing of an earlier sending.

@@ -33,6 +33,8 @@ function objectOf(body) {
 }
 function understood(status, found, route, isCommand) {
   const { answer, number, name, sentence, told, notes, lines } = found;
+  // (how many entries the branch has, which a dry run is told)
+  const count = /^[0-9]{1,5}$/.test(found.entries) ? { entries: found.entries } : {};
   if (status === 200 && !isCommand) {
     const isReport = Array.isArray(lines) && lines.every(line => areTexts(line) && line.length === COLUMNS[route]);
     return isReport ? { kind: "report", lines } : null;
@@ -44,10 +46,10 @@ function understood(status, found, route, isCommand) {
     return { kind: "refused", number: Number(number), name, sentence, told, line: line && Number(line[1]) };
   }
   if (status !== 200) return null;
-  if (answer === "ok") return { kind: "done", notes };
-  if (answer === "repeated") return { kind: "repeated", notes };
+  if (answer === "ok") return { kind: "done", notes, ...count };
+  if (answer === "repeated") return { kind: "repeated", notes, ...count };
   const counts = /^ok ([0-9]+) new, ([0-9]+) repeated$/.exec(answer);
-  return counts && { kind: "imported", added: Number(counts[1]), old: Number(counts[2]), notes };
+  return counts && { kind: "imported", added: Number(counts[1]), old: Number(counts[2]), notes, ...count };
 }
 // The lines of a report; what is none is thrown.
 async function report(path) {

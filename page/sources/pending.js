@@ -52,7 +52,7 @@ function showPendings() {
       isGone ? el("p", {}, text("same-file")) : null,
       one.isUnkept ? el("p", {}, text("keeps-nothing")) : null,
       isGone ? buttons(button("did-that", () => forget(one))) : buttons(
-        button("send-again", once(() => command(one.request)), ".main"),
+        button("send-again", once(() => command(one.request, FORMS[one.form])), ".main"),
         button("forget", event => askForget(one, event.target.closest(".panel")))));
   }));
 }

@@ -1,6 +1,7 @@
 // ---------- What happens when ----------
 
 for (const [name, form] of Object.entries(FORMS)) {
+  form.name = name;
   $(name + "-form").addEventListener("submit", once(() => attempt(form)));
   $(name + "-form").addEventListener("input", hush);
 }

@@ -165,8 +165,12 @@ const TEXTS = {
   "one-more-like-it": ["Enter one more like it", "Noch einen gleichen buchen"],
   "no-preview": ["What it does to the balances could not be asked.",
     "Die Wirkung auf die Salden ließ sich nicht erfragen."],
-  "has-changed": ["The books have changed since the check. Nothing was entered; this is how it is now.",
-    "Seit der Prüfung haben sich die Bücher geändert. Nichts wurde eingetragen; so ist es jetzt."],
+  "has-changed": ["The branch has changed since it was shown: other entries were made in between. Nothing was entered; "
+    + "this is how it is now.",
+    "Der Zweig hat sich geändert, seit er gezeigt wurde: inzwischen kamen andere Buchungen dazu. Nichts wurde "
+    + "eingetragen; so ist es jetzt."],
+  "further": ["and {n} more", "und {n} weitere"],
+  "entries-made": ["The entry|The entries", "Die Buchung|Die Buchungen"],
   "read-so": ["Yes, the amounts are meant as they were read.",
     "Ja, die Beträge sind so gemeint, wie sie gelesen wurden."],
 

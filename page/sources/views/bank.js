@@ -330,7 +330,7 @@ async function bankRequest() {
 }
 // What is checked with a bank's lines: the accounts before and after, through the last day.
 async function bankPreview({ branch, journal }) {
-  const marks = new Set(bank.book.map(({ mark }) => mark));
+  const marks = new Set((await bookOf(branch)).map(({ mark }) => mark));
   const made = journal.split(/\n\n/).map((one, at) => entryOf(one, at)).filter(({ mark }) => !marks.has(mark));
   const last = made.reduce((most, { day }) => day > most ? day : most, "");
   return effects(branch, last, made.flatMap(legsOf).filter(({ units }) => units));
