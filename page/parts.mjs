@@ -4,11 +4,12 @@ import fs from "node:fs";
 import util from "node:util";
 import { ROWS } from "./samples/rows.mjs";
 
-const SOURCES = ["amounts.js", "days.js", "interface.js", "entries.js", "accounts.js", "bank-files.js", "pending.js",
-  "commands.js", "tree.js", "chart.js"];
-const NAMES = ["learnStyles", "readAmount", "printAmount", "amountTyped", "dayNumber", "dayBefore", "yearBefore",
-  "understood", "entryOf", "legsOf", "kindOf", "plain", "entryText", "keyOf", "isUndecided", "treeOf", "ticks",
-  "decoded", "fileKind", "dayRead", "unitsRead", "csvSetting", "readCsv", "readXml", "readCamt", "readMt940", "sameAccount"];
+const SOURCES = ["amounts.js", "days.js", "interface.js", "entries.js", "journal-text.js", "accounts.js",
+  "bank-files.js", "pending.js", "commands.js", "tree.js", "chart.js"];
+const NAMES = ["amountMeant", "priceMeant", "entryAt", "spelledOut", "learnStyles", "readAmount", "printAmount",
+  "amountTyped", "dayNumber", "dayBefore", "yearBefore", "understood", "entryOf", "legsOf", "kindOf", "plain",
+  "entryText", "keyOf", "isUndecided", "treeOf", "ticks", "decoded", "fileKind", "dayRead", "unitsRead",
+  "csvSetting", "readCsv", "readXml", "readCamt", "readMt940", "sameAccount"];
 const written = SOURCES.map(name => fs.readFileSync(new URL("sources/" + name, import.meta.url), "utf-8")).join("");
 const page = new Function(`"use strict";\n${written}\nreturn { ${NAMES.join()} };`)();
 
@@ -110,6 +111,34 @@ const ACCOUNTS = [["income:dues", "income"], ["Revenues", "income"], ["expenses:
   ["assets:transit", "transit"], ["assets:transition", "asset"], ["liabilities:loan", "liability"],
   ["Vermögen:Kasse", "asset"], ["equity:opening", "other"], ["incomes and more", "other"]];
 for (const [name, kind] of ACCOUNTS) gives(`what ${name} is`, () => page.kindOf(name), kind);
+
+// The text of a journal, as docs/FORMATS.md says that it is read
+const MEANT = [["1.500 EUR", "1.50 EUR"], ["1,5 EUR", "15.00 EUR"], ["EUR 1", "1.00 EUR"], ["$.50", "$0.50"],
+  ["-$1", "$-1.00"], ["$-1", "$-1.00"], ["- EUR 1", "-1.00 EUR"], ["-0 EUR", "0.00 EUR"], ['1 "EUR"', "1.00 EUR"],
+  ["$ 1234", "$1,234.00"], ["$-.5", "$-0.50"], ["1000 JPY", "1,000. JPY"], ["999 JPY", "999 JPY"],
+  ['3 "kg2"', '3.00 "kg2"'], ["1.5 CHF", "15,00 CHF"], ["12,50 EUR", "1,250.00 EUR"],
+  ["100000000000000.00 EUR", "100,000,000,000,000.00 EUR"]];
+for (const [given, wanted] of MEANT) gives(`${given} in a journal`, () => page.amountMeant(given), wanted);
+const PRICES = [["$1.35", "@", "$1.35"], ["$1.350", "@", "$1.35"], ["$1.3456", "@", "$1.3456"], ["$2", "@", "$2.00"],
+  ["$0", "@@", "$0.00"], ["$0.01250", "@", "$0.0125"]];
+for (const [given, at, wanted] of PRICES) gives(`the price ${at} ${given}`, () => page.priceMeant(given, at), wanted);
+const MEANT_SO = [
+  ["2024-01-05 x\n    * assets:bank  1.00 EUR\n    b",
+    "2024-01-05 x\n    assets:bank  1.00 EUR\n    b            -1.00 EUR"],
+  ["2024/1/5 * (17) hall  ; note\n  ; more\n\ta:x;y  1.00 EUR\n\ta:y\t12,50 EUR ; z",
+    "2024-01-05 (17) hall\n    a:x  -1,250.00 EUR\n    a:y  1,250.00 EUR"],
+  ["2024.01.05\n a:x  5 EUR @ $1==*$5\n b", "2024-01-05\n    a:x  5.00 EUR @ $1.00 ==* $5.00\n    b    $-5.00"],
+  ["2024-01-05 x\n  a b c  1 EUR\n  d  -1 EUR\n  e  0 EUR=0 EUR\n\n2024-01-06 y\n  f  1 EUR",
+    "2024-01-05 x\n    a b c  1.00 EUR\n    d      -1.00 EUR\n    e      0.00 EUR = 0.00 EUR"],
+  ["2024-01-05 x\r\n    a  $1\r\n    a  1 EUR\r\n    b\r\n",
+    "2024-01-05 x\n    a  $1.00\n    a  1.00 EUR\n    b  -1.00 EUR\n    b  $-1.00"],
+];
+for (const [given, wanted] of MEANT_SO) {
+  gives(`the entry ${given}`, () => page.spelledOut(page.entryAt(given.split("\n"), 1)), wanted);
+}
+for (const given of ["2024-01-05 x\n  a  1 EUR\n  b  -2 EUR", "2024-01-05 x\n  a  1 GBP\n  b", "no entry"]) {
+  gives(`${given} is not understood`, () => page.entryAt(given.split("\n"), 1), null);
+}
 
 // Replies
 const done = { answer: "ok", told: [], notes: [] };

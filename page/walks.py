@@ -250,7 +250,12 @@ def imports(holds, page, browser):
     holds("12,50 EUR is noted", "line 2: 12,50 EUR was read as 1,250.00 EUR" in said, said)
     holds("a mistyped account is noted", "line 3: asets:bank is an account that no earlier entry of north has" in said,
           said)
-    holds("the new entry is shown with its amounts", "expenses:gifts" in said and "12,50 EUR" in said, said)
+    holds("the new entry is shown with its amounts as they are read", "expenses:gifts  1,250.00 EUR" in said
+          and "asets:bank      -1,250.00 EUR" in said, said)
+    cells = page.cells("#outcome .sides tbody tr")
+    holds("and what it does to the balances", cells == [["expenses:gifts", "0.00 EUR", "1,250.00 EUR", "1,250.00 EUR"],
+                                                         ["asets:bank", "0.00 EUR", "-1,250.00 EUR", "-1,250.00 EUR"]],
+          cells)
     is_shut = "return document.querySelector('#outcome button.main').disabled"
     holds("what was read otherwise has to be ticked by itself", page.run(is_shut))
     page.tab.click("#outcome input[type=checkbox]")
@@ -1253,8 +1258,56 @@ def german(holds, page, browser):
     page.tab.reload()
     page.settle()
     holds("the language stays", page.text("#title").strip() == "Kasse")
+    english = [f"{what}: {left}" for what, left in hints(page) if left]
+    holds("each hint is German", english == [], english)
     page.put("language-choice", "en")
     page.settle()
+
+
+# What is asked of forms so that it is refused, each with a hint of its own: the form, and its fields
+REFUSED = (
+    ("branch", {"name": "North"}), ("branch", {"name": "x" * 40}), ("commodity", {"sample": "1000 GBP"}),
+    ("commodity", {"sample": "1.000,00 EUR"}), ("send", {"to": "south", "amount": "1 GBP", "account": "assets:bank"}),
+    ("send", {"to": "south", "amount": "0", "account": "assets:bank"}),
+    ("send", {"to": "south", "amount": "1.00 EUR", "account": "a::b"}),
+    ("send", {"to": "south", "amount": "1.00 EUR", "account": "assets:transit"}),
+    ("receive", {"id": "nothing", "account": "assets:bank"}), ("lock", {"day": "2020-01-01"}),
+    ("close", {"day": "2020-01-01"}), ("close", {"day": "2026-12-30", "accounts": "nothing"}),
+    ("close", {"day": "2026-12-30", "accounts": "assets"}), ("close", {"day": "2026-12-30", "accounts": "a::b"}),
+    ("close", {"day": "2026-12-30", "into": "assets:transit"}), ("close", {"day": "2026-12-30", "into": "income"}),
+    ("close", {"day": "2026-02-28", "accounts": "expenses"}),
+    ("import", {"text": "2026-07-01 x\n    ; bookid:mine\n    a:b  7.00 EUR\n    a:c\n"}),
+    ("import", {"text": "2026-07-01 x\n    ; bookid:close:2026-07-01\n    a:b  7.00 EUR\n    a:c\n"}),
+    ("import", {"text": "2026-07-01 x\n    ; bookid:in:y\n    a:b  7.00 EUR\n    a:c\n"}),
+    ("import", {"text": "2026-07-01 x\n    assets:transit:y  7.00 EUR\n    a:c\n"}),
+    ("import", {"text": "\ufeff2026-07-01 x\n    a:b  7.00 EUR\n    a:c\n"}),
+    ("import", {"text": "2026-07-01 x\na:b  7.00 EUR\n    a:c\n"}),
+    ("import", {"text": "2026-07-01 x\n    a:b  0\n    a:c  0.00 EUR\n"}),
+    ("import", {"text": f"2026-07-01 ({'x' * 101})\n    a:b  7.00 EUR\n    a:c\n"}),
+    ("import", {"text": f"2026-07-01 {'x' * 1001}\n    a:b  7.00 EUR\n    a:c\n"}),
+    ("import", {"text": f"2026-07-01 x\n    ; {'x' * 901}\n    a:b  7.00 EUR\n    a:c\n"}),
+    ("import", {"text": "2026-07-01 x\n    a:b  7.00 EUR = 9.00 EUR\n    a:c\n"}),
+)
+
+
+def hints(page):
+    """Of each refusal what was asked, and what of its answer is in English, or speaks of a terminal."""
+    page.open("import", branch="north")
+    for what in (*FAULTS, *REFUSED):
+        form, fields = ("import", {"text": what[1]}) if len(what) == 3 else what
+        page.go("setup" if form in ("branch", "commodity") else form, branch="north")
+        if form == "import":
+            page.put("import-text", fields["text"])
+        else:
+            page.fill(form, **fields)
+        if form == "close":
+            for name in {"accounts", "into"} - set(fields):
+                page.put(f"close-{name}", "")
+        page.run(f"document.querySelector('#{form}-form').noValidate = true")
+        said = page.check(form)
+        left = page.run("return [...document.querySelectorAll('#outcome [lang=en]')].map(it => it.innerText)")
+        left += re.findall(r"treasury [a-z]+|--[a-z]+|hledger print", said)
+        yield f"{form} {str(fields)[:80]}", left if "refused" in said.lower() or "Abgelehnt" in said else [said]
 
 
 def visit_texts(page, view):

@@ -25,8 +25,8 @@ function readAmount(amount) {
   if (printAmount(symbol, units) !== amount) throw new Error("no amount: " + amount);
   return { symbol, units };
 }
-function printAmount(symbol, units) {
-  const { isLeft, space, mark, group, decimals } = styles.get(symbol);
+function printAmount(symbol, units, decimals = styles.get(symbol).decimals) {
+  const { isLeft, space, mark, group } = styles.get(symbol);
   const digits = String(units < 0n ? -units : units).padStart(decimals + 1, "0");
   const whole = digits.slice(0, digits.length - decimals), isGrouped = group && whole.length > 3;
   const number = (units < 0n ? "-" : "") + (isGrouped ? whole.replace(/\B(?=(?:\d{3})+$)/g, group) : whole)

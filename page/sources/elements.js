@@ -46,17 +46,25 @@ function shown(value) {
   return out;
 }
 // What the treasury says, in the language of the page where it is known there, and otherwise in its own.
-const PATTERNS = SAID.map(([english, german]) => {
-  const parts = english.split("{}").map(part => part.replace(/[.*+?^${}()|[\]\\]/g, "\\$&"));
-  return { form: new RegExp("^" + parts.join("(.+?)") + "$", "su"), german };
-});
-function said(line) {
-  if (language !== "de") return shown(line);
-  for (const { form, german } of PATTERNS) {
+const patternOf = ([form, wanted]) => {
+  const parts = form.split("{}").map(part => part.replace(/[.*+?^${}()|[\]\\]/g, "\\$&"));
+  return { form: new RegExp("^" + parts.join("(.+?)") + "$", "su"), wanted };
+};
+const GERMAN = SAID.map(patternOf), OWN_WORDS = REWORDED.map(patternOf);
+// The parts of a text by the first pattern that it has: those of the pattern, and between them those of the text.
+function rewritten(patterns, line) {
+  for (const { form, wanted } of patterns) {
     const found = form.exec(line);
-    if (found) return el("span", {}, german.split("{}").map((part, at) => at ? [shown(found[at]), part] : part));
+    if (found) return wanted.split("{}").flatMap((part, at) => at ? [found[at], part] : [part]);
   }
-  return el("span", { lang: "en" }, shown(line));
+  return null;
+}
+function said(line) {
+  const own = rewritten(OWN_WORDS, line)?.join("") ?? line;
+  if (language !== "de") return shown(own);
+  const parts = rewritten(GERMAN, own);
+  return parts ? el("span", {}, parts.map((part, at) => at % 2 ? shown(part) : part))
+    : el("span", { lang: "en" }, shown(own));
 }
 const facts = rows => el("dl.facts", {}, rows.filter(Boolean).map(([name, value]) =>
   [el("dt", {}, name), el("dd", {}, value instanceof Node ? value : shown(value))]));

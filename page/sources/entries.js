@@ -29,18 +29,19 @@ function legsRead({ postings }) {
     if (!amount) continue;
     const read = readAmount(amount);
     legs.push({ account, ...read });
-    add(left, at ? valueAt(read, at, price) : read);
+    add(left, valueAt(read, at, price));
   }
   const open = postings.find(one => !one.amount);
-  for (const [symbol, units] of open ? left : []) {
-    if (units) legs.push({ account: open.account, symbol, units: -units });
+  for (const symbol of open ? styles.keys() : []) {
+    if (left.get(symbol)) legs.push({ account: open.account, symbol, units: -left.get(symbol) });
   }
   return legs;
 }
 // What a posting without an amount takes.
 const inferredOf = entry => legsOf(entry).slice(entry.postings.filter(one => one.amount).length);
-// The value of an amount with a price; the treasury has taken it, so it is exact.
+// The value of an amount, perhaps with a price; the treasury has taken it, so it is exact.
 function valueAt({ symbol, units }, at, price) {
+  if (!at) return { symbol, units };
   if (at === "@@") {
     const cost = readAmount(price);
     return { symbol: cost.symbol, units: units > 0n ? cost.units : units < 0n ? -cost.units : 0n };
@@ -49,6 +50,17 @@ function valueAt({ symbol, units }, at, price) {
   const [whole, part = ""] = number.replaceAll(mark === "." ? "," : ".", "").split(mark);
   const top = units * BigInt(whole + part), tens = styles.get(symbol).decimals + part.length - decimals;
   return { symbol: cost, units: tens < 0 ? top * 10n ** BigInt(-tens) : top / 10n ** BigInt(tens) };
+}
+// An entry with all its amounts below one another, also those that it does not say.
+function spelledOut(entry) {
+  const amountOf = ({ amount, at, price, sign, asserted }) =>
+    [amount, at, price, sign, asserted].filter(Boolean).join(" ");
+  const rows = entry.postings.flatMap(one => one.amount ? [[one.account, amountOf(one)]]
+    : inferredOf(entry).map(leg => [one.account, printed(leg)]));
+  const width = Math.max(...rows.map(([account]) => account.length));
+  const code = entry.code && `(${entry.code})`;
+  return [[entry.day, code, entry.description].filter(Boolean).join(" "),
+    ...rows.map(([account, amount]) => `    ${account.padEnd(width)}  ${amount}`)].join("\n");
 }
 const sameLegs = (one, two) => {
   const written = legs => legs.map(leg => `${leg.account}\n${printed(leg)}`).sort().join("\n");

@@ -135,6 +135,8 @@ const TEXTS = {
     "{n} Buchung ist neu, schon da: {old}.|{n} Buchungen sind neu, schon da: {old}."],
   "new-entries": ["New entries", "Neue Buchungen"],
   "line": ["line {line}", "Zeile {line}"],
+  "no-effects": ["There are too many new entries, or they are too unusual, to show what they do to the balances.",
+    "Es sind zu viele neue Buchungen, oder sie sind zu ungewöhnlich, um ihre Wirkung auf die Salden zu zeigen."],
 
   "entry-note": ["One receipt or payment: from which account the money comes, and to which it goes. What a member pays "
     + "comes from an account of income. Several lines share an amount out.",
