@@ -142,16 +142,25 @@ class Stand:
     """The treasury, nginx and the rest, with their files in a folder."""
 
     PEOPLE = ("secretary", "anna", "bert", "carla")
+    SOURCE = TOP / "examples" / "serve" / "treasury.nginx"
 
     def __init__(self, program, page, folder):
         self.program, self.folder, self.children = program, pathlib.Path(folder), []
         self.mode, self.seen = "pass", []
-        self.back, self.tls = free_port(), free_port()
+        self.back, self.tls, self.plain = free_port(), free_port(), free_port()
         self.origin = f"https://{SITE}:{self.tls}"
         (self.folder / "page").mkdir()
         shutil.copy(page, self.folder / "page" / "treasury.html")
+        try:
+            self.begin()
+        except BaseException:
+            self.close()
+            raise
+
+    def begin(self):
+        """Starts everything; what was started ends if something else does not start."""
         self.run("init", "--db", self.folder / "books.db")
-        self.start(program, "serve", "--db", self.folder / "books.db", "--port", self.back, "--requests", 1000000)
+        self.start(self.program, "serve", "--db", self.folder / "books.db", "--port", self.back, "--requests", 1000000)
         wait_for(self.back)
         self.middle = Server(self, Between).port
         self.elsewhere = f"http://127.0.0.1:{Server(self, Elsewhere).port}"
@@ -179,27 +188,33 @@ class Stand:
                        stderr=subprocess.DEVNULL)
         word = subprocess.run([openssl, "passwd", "-apr1", "secret"], check=True, stdout=subprocess.PIPE,
                               encoding="utf-8").stdout
-        (self.folder / "treasury.passwords").write_text("".join(f"{name}:{word}" for name in self.PEOPLE))
+        (self.folder / "treasury-8040.passwords").write_text("".join(f"{name}:{word}" for name in self.PEOPLE))
 
-    def written_configuration(self):
-        """Writes the configuration of examples/serve, with the places and ports of this stand."""
-        text = (TOP / "examples" / "serve" / "treasury.nginx").read_text()
+    def configuration(self):
+        """Returns the configuration of examples/serve, with the places and ports of this stand."""
+        text = self.SOURCE.read_text()
         for old, new in (("listen 443 ssl;", f"listen 127.0.0.1:{self.tls} ssl;"), ("listen [::]:443 ssl;", ""),
+                         ("listen 80;", f"listen 127.0.0.1:{self.plain};"), ("listen [::]:80;", ""),
                          ("https://$server_name", f"https://$server_name:{self.tls}"),
                          (f"/etc/letsencrypt/live/{SITE}/", f"{self.folder}/"),
-                         ("/etc/nginx/treasury.passwords", f"{self.folder}/treasury.passwords"),
+                         ("/etc/nginx/treasury-8040", f"{self.folder}/treasury-8040"),
+                         ("/var/log/nginx/treasury-8040", f"{self.folder}/treasury-8040"),
                          ("http://127.0.0.1:8040", f"http://127.0.0.1:{self.middle}"),
                          ("root /usr/share/yovalimer;", f"root {self.folder}/page;")):
             if old not in text:
-                raise SystemExit(f"examples/serve/treasury.nginx has no {old}")
+                raise SystemExit(f"{self.SOURCE} has no {old}")
             text = text.replace(old, new)
+        return text
+
+    def written_configuration(self):
+        """Writes the configuration of nginx."""
         parts = ("client_body", "proxy", "fastcgi", "uwsgi", "scgi")
         places = "".join(f"{it}_temp_path {self.folder}/nginx-{it}; " for it in parts)
         user = "user root; " if os.geteuid() == 0 else ""
         path = self.folder / "nginx.conf"
         path.write_text(f"{user}daemon off; pid {self.folder}/nginx.pid; error_log {self.folder}/error.log;\n"
                         "events { }\nhttp { types { text/html html; } "
-                        f"access_log {self.folder}/access.log; {places}\n{text}}}\n")
+                        f"access_log {self.folder}/access.log; {places}\n{self.configuration()}}}\n")
         return path
 
     def ask(self, path, request=None):
