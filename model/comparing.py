@@ -10,6 +10,7 @@ import os
 import pathlib
 import re
 import resource
+import select
 import shutil
 import signal
 import socket
@@ -25,7 +26,8 @@ from model.random_texts import ODD, TOP
 from model.requests import BRANCH_COMMANDS
 from model.treasury import Treasury
 
-SECONDS, MANY, NO_LIMIT = 60, 2**32 - 1, resource.RLIM_INFINITY
+# Seconds by the clock after which a program that has not ended is at fault; a busy machine takes minutes
+SECONDS, MANY, NO_LIMIT = 900, 2**32 - 1, resource.RLIM_INFINITY
 FILE, WAL = "t.db", "t.db-wal"
 REFUSED_41, REFUSED_42 = b"refused 41 Store\n", b"refused 42 Closed\n"
 BODY_41, BODY_42 = (re.compile(rb'\r\n\r\n(?:\{"answer":")?' + text[:-1]) for text in (REFUSED_41, REFUSED_42))
@@ -162,6 +164,20 @@ def limit_size(size):
     return set_limit
 
 
+def kill_after(process, seconds, output):
+    """Kills a process once it has taken so much more processor time, has ended, or has begun its output; by the clock, it
+    would not have begun at all on a busy machine."""
+    clock, until = ~process.pid << 3 | 2, time.monotonic() + SECONDS  # (as of clock_getcpuclockid)
+    try:
+        ends = time.clock_gettime(clock) + seconds
+        while time.clock_gettime(clock) < ends and process.poll() is None and time.monotonic() < until:
+            if select.select([output], [], [], 0.0001)[0]:
+                break
+    except OSError:  # (it has ended)
+        pass
+    process.kill()
+
+
 def held_of(folder, fault, before, after, is_answered):
     """Which treasury the file holds: that after a command or, unless it was answered, before it; None if neither."""
     held = next((it for it in ((after,) if is_answered else (after, before)) if not difference_of(it, folder)), None)
@@ -195,8 +211,7 @@ def by_commands(folder, program, steps, rng):
         process = subprocess.Popen([program, *words], cwd=folder, stdin=subprocess.DEVNULL, stdout=subprocess.PIPE,
                                    stderr=subprocess.DEVNULL, preexec_fn=limit)
         if fault == "killed":
-            time.sleep(rng.random() ** 2 * 0.02)
-            process.kill()
+            kill_after(process, rng.random() ** 2 * 0.02, process.stdout)
         found, status = process.communicate(timeout=SECONDS)[0], process.returncode
         is_late = fault == "killed" and status == -9 and found != b""
         is_answered = found == wanted[1] and (status == wanted[0] or is_late)
@@ -222,14 +237,14 @@ class Service:
         self.port = int(self.process.stderr.readline().rpartition(b":")[2])
 
     def ask(self, call, seconds=None):
-        """All that comes back; if the service is killed so many seconds later, what of it came before."""
+        """All that comes back; if the service is killed after so much more processor time, what of it came before."""
         said = []
         with socket.create_connection(("127.0.0.1", self.port), SECONDS) as it:
             try:
                 it.sendall(call)
                 it.shutdown(socket.SHUT_WR)
                 if seconds is not None:
-                    time.sleep(seconds)
+                    kill_after(self.process, seconds, it)
                     self.kill()
                 said.extend(iter(lambda: it.recv(65536), b""))
             except ConnectionError as error:
