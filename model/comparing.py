@@ -165,8 +165,8 @@ def limit_size(size):
 
 
 def kill_after(process, seconds, output):
-    """Kills a process once it has taken so much more processor time, has ended, or has begun its output; by the clock, it
-    would not have begun at all on a busy machine."""
+    """Kills a process once it has taken so much more processor time, has ended, or has begun its output; by the clock,
+    it would not have begun at all on a busy machine."""
     clock, until = ~process.pid << 3 | 2, time.monotonic() + SECONDS  # (as of clock_getcpuclockid)
     try:
         ends = time.clock_gettime(clock) + seconds
