@@ -171,7 +171,7 @@ def kill_after(process, seconds, output):
     try:
         ends = time.clock_gettime(clock) + seconds
         while time.clock_gettime(clock) < ends and process.poll() is None and time.monotonic() < until:
-            if select.select([output], [], [], 0.0001)[0]:
+            if select.select([output], [], [], 0)[0]:
                 break
     except OSError:  # (it has ended)
         pass
@@ -237,10 +237,13 @@ class Service:
         self.port = int(self.process.stderr.readline().rpartition(b":")[2])
 
     def ask(self, call, seconds=None):
-        """All that comes back; if the service is killed after so much more processor time, what of it came before."""
+        """All that comes back; if the service is killed after so much more processor time, what of it came before. If it
+        is to have none, it is stopped first: on a busy machine it would often have replied before it is killed."""
         said = []
         with socket.create_connection(("127.0.0.1", self.port), SECONDS) as it:
             try:
+                if seconds == 0 and len(call) < 16_384:  # (a longer call would wait until it is read)
+                    self.process.send_signal(signal.SIGSTOP)
                 it.sendall(call)
                 it.shutdown(socket.SHUT_WR)
                 if seconds is not None:
@@ -274,7 +277,7 @@ def by_http(folder, program, steps, rng):
                     happened[f"a branch's path is answered {wanted[9:12].decode()}"] += 1
             if fault == "full":
                 resource.prlimit(service.process.pid, resource.RLIMIT_FSIZE, (rng.randrange(120000), NO_LIMIT))
-            found = without_said(service.ask(call, rng.random() ** 3 * 0.01 if fault == "killed" else None))
+            found = without_said(service.ask(call, rng.choice((0, rng.random() ** 3 * 0.01)) if fault == "killed" else None))
             is_answered = found == wanted and (found != b"" or fault != "killed")
             is_41 = fault == "full" and BODY_41.search(found)
             if is_41 and not BODY_42.search(service.ask(call)):
