@@ -237,8 +237,8 @@ class Service:
         self.port = int(self.process.stderr.readline().rpartition(b":")[2])
 
     def ask(self, call, seconds=None):
-        """All that comes back; if the service is killed after so much more processor time, what of it came before. If it
-        is to have none, it is stopped first: on a busy machine it would often have replied before it is killed."""
+        """All that comes back; if the service is killed after so much more processor time, what of it came before. If
+        it is to have none, it is stopped first: on a busy machine it would often have replied before it is killed."""
         said = []
         with socket.create_connection(("127.0.0.1", self.port), SECONDS) as it:
             try:
@@ -277,7 +277,8 @@ def by_http(folder, program, steps, rng):
                     happened[f"a branch's path is answered {wanted[9:12].decode()}"] += 1
             if fault == "full":
                 resource.prlimit(service.process.pid, resource.RLIMIT_FSIZE, (rng.randrange(120000), NO_LIMIT))
-            found = without_said(service.ask(call, rng.choice((0, rng.random() ** 3 * 0.01)) if fault == "killed" else None))
+            seconds = rng.choice((0, rng.random() ** 3 * 0.01)) if fault == "killed" else None
+            found = without_said(service.ask(call, seconds))
             is_answered = found == wanted and (found != b"" or fault != "killed")
             is_41 = fault == "full" and BODY_41.search(found)
             if is_41 and not BODY_42.search(service.ask(call)):
