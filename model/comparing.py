@@ -29,7 +29,7 @@ from model.treasury import Treasury
 # Seconds by the clock after which a program that has not ended is at fault; a busy machine takes minutes
 SECONDS, MANY, NO_LIMIT = 900, 2**32 - 1, resource.RLIM_INFINITY
 FILE, WAL = "t.db", "t.db-wal"
-REFUSED_41, REFUSED_42 = b"refused 41 Store\n", b"refused 42 Closed\n"
+REFUSED_41, REFUSED_42, CHANGED = b"refused 41 Store\n", b"refused 42 Closed\n", b"refused 48 Changed\n"
 BODY_41, BODY_42 = (re.compile(rb'\r\n\r\n(?:\{"answer":")?' + text[:-1]) for text in (REFUSED_41, REFUSED_42))
 KEYS = {"unit": "nr", "branch": "nr", "entry": "branch, nr", "leg": "branch, entry, nr", "claim": "branch, entry, leg",
         "transfer": "id", "receipt": "transfer, part"}
@@ -205,6 +205,7 @@ def by_commands(folder, program, steps, rng):
         kept = file.read_bytes() if is_dry else b""
         wanted = treasury.command(words, files)
         happened["the command " + words[0] + " --dry-run" * ("--dry-run" in words)] += 1
+        happened["a command is refused with 48"] += wanted[1] == CHANGED
         if fault == "full":
             size = os.path.getsize(os.path.join(folder, FILE))
             limit = limit_size(rng.choice((0, 4096, size, rng.randrange(size + 60000))))
@@ -271,6 +272,8 @@ def by_http(folder, program, steps, rng):
             wanted = treasury.http(call)
             form = " in JSON" if b"\r\nContent-Type: application/json\r\n" in wanted else ""
             happened[f"a reply{form} with {wanted[9:12].decode() or 'nothing'}"] += 1
+            happened["a reply with 48"] += CHANGED[:-1] in wanted
+            happened["a reply with a number of entries"] += b'"entries":"' in wanted
             if isinstance(item, dict):
                 happened[f"{call.split(b' ')[0].decode()} of {item.get('do')}"] += 1
                 if call.startswith(b"POST /commands/"):
