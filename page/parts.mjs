@@ -4,12 +4,12 @@ import fs from "node:fs";
 import util from "node:util";
 import { ROWS } from "./samples/rows.mjs";
 
-const SOURCES = ["amounts.js", "days.js", "interface.js", "entries.js", "journal-text.js", "accounts.js",
+const SOURCES = ["names.js", "amounts.js", "days.js", "interface.js", "entries.js", "journal-text.js", "accounts.js",
   "bank-files.js", "pending.js", "commands.js", "tree.js", "chart.js"];
-const NAMES = ["amountMeant", "priceMeant", "entryAt", "spelledOut", "learnStyles", "readAmount", "printAmount",
-  "amountTyped", "dayNumber", "dayBefore", "yearBefore", "understood", "entryOf", "legsOf", "kindOf", "plain",
-  "entryText", "keyOf", "isUndecided", "treeOf", "ticks", "decoded", "fileKind", "dayRead", "unitsRead",
-  "csvSetting", "readCsv", "readXml", "readCamt", "readMt940", "sameAccount"];
+const NAMES = ["seenParts", "alike", "amountMeant", "priceMeant", "entryAt", "spelledOut", "learnStyles",
+  "readAmount", "printAmount", "amountTyped", "dayNumber", "dayBefore", "yearBefore", "understood", "entryOf",
+  "legsOf", "kindOf", "plain", "entryText", "keyOf", "isUndecided", "treeOf", "ticks", "decoded", "unpacked", "fileKind",
+  "dayRead", "unitsRead", "csvSetting", "readCsv", "readXml", "readCamt", "readMt940", "sameAccount"];
 const written = SOURCES.map(name => fs.readFileSync(new URL("sources/" + name, import.meta.url), "utf-8")).join("");
 const page = new Function(`"use strict";\n${written}\nreturn { ${NAMES.join()} };`)();
 
@@ -99,6 +99,15 @@ gives("an entry's text", () => page.entryText("2026-05-01", "tea; milk", "p-1", 
     a  8.50 EUR
     b  -8.50 EUR = 91.50 EUR
 `);
+
+// Texts from elsewhere
+const SEEN = [["assets:bank", ["assets:bank"]], ["Käse für Žofia 日本 касса", ["Käse für Žofia 日本 касса"]],
+  ["\u202egnp", ["", "\\u{202e}", "gnp"]], ["a\u00a0b", ["a", "\\u{a0}", "b"]],
+  ["\u0430ssets:b\u0430nk", ["", "\\u{430}", "ssets:b", "\\u{430}", "nk"]],
+  ["\uff41ssets", ["", "\\u{ff41}", "ssets"]], ["\u{1d41a}b", ["", "\\u{1d41a}", "b"]], ["m²", ["m²"]]];
+for (const [given, parts] of SEEN) gives(`${given} is shown`, () => page.seenParts(given), parts);
+gives("names that look alike", () => page.alike(["assets:Bank", "assets:bank", "assets:cash", "Café", "Cafe\u0301"]),
+  [["assets:Bank", "assets:bank"], ["Café", "Cafe\u0301"]]);
 
 // Days, and what an account is by its name
 const DAYS = [["dayBefore", "2026-03-01", "2026-02-28"], ["dayBefore", "2024-03-01", "2024-02-29"],
@@ -196,8 +205,9 @@ function readFile(name) {
 function statementOf(name) {
   const [{ account, lines, opening, closings, skipped, unread, gap }, { delimiter, order, mark, columns }, kind]
     = readFile(name);
-  const lineOf = ({ day, units, payee, purpose, reference, balance }) => {
-    const all = [day, money(units), payee, purpose, reference, balance === null ? "" : money(balance)];
+  const lineOf = ({ day, units, payee, purpose, reference, balance, parts = [] }) => {
+    const all = [day, money(units), payee, purpose, reference, balance === null ? "" : money(balance),
+      ...parts.map(one => [money(one.units), one.payee, one.purpose])];
     return all.slice(0, all.findLastIndex(Boolean) + 1);
   };
   return { file: name,
@@ -208,6 +218,13 @@ function statementOf(name) {
     ...(skipped ? { skipped } : {}), ...(unread.length ? { unread } : {}), ...(gap ? { gap } : {}) };
 }
 for (const row of ROWS) gives(row.file, () => statementOf(row.file), row);
+const zip = new Uint8Array(fs.readFileSync(new URL("samples/two.zip", import.meta.url)));
+const inside = await page.unpacked("two.zip", zip);
+gives("the files in a ZIP", () => inside.map(({ name, bytes }) => [name, new TextDecoder().decode(bytes)]),
+  ["british", "american"].map(name => [`statements/${name}.csv`,
+    fs.readFileSync(new URL(`samples/${name}.csv`, import.meta.url), "utf-8")]));
+const half = await page.unpacked("half.zip", zip.slice(0, 200));
+gives("half a ZIP has nothing", () => half.map(({ name, bytes }) => [name, bytes.length]), [["half.zip", 0]]);
 const UNITS = [["1.234,50-", ",", -123450n], ["CHF 1'234.50", ".", 123450n], ["12,345", ",", null],
   ["12,340", ",", 1234n], ["\u22125,00 €", ",", -500n], ["(5.00)", ".", -500n], ["5,00 S", ",", -500n],
   ["5,00 H", ",", 500n],

@@ -85,7 +85,7 @@ class Between(socketserver.BaseRequestHandler):
 
     pass; cut (nothing reaches the treasury); lose (the reply of a command is thrown away after the deed); slow (a reply
     comes late); half (half a report comes); answer STATUS TEXT (somebody else answers, but for dry runs); always STATUS
-    TEXT (somebody else answers).
+    TEXT (somebody else answers); deny PATH (of what begins so, it is 403); busy N (the next N requests are too many).
     """
 
     def handle(self):
@@ -102,6 +102,13 @@ class Between(socketserver.BaseRequestHandler):
             _, status, text = mode.split(" ", 2)
             self.request.sendall(b"HTTP/1.1 %s X\r\nContent-Type: application/json\r\nContent-Length: %d\r\n"
                                  b"Connection: close\r\n\r\n%s" % (status.encode(), len(text.encode()), text.encode()))
+            return
+        denied = mode.startswith("deny ") and line.split()[1].startswith(mode[5:])
+        if denied or (mode.startswith("busy ") and mode != "busy 0"):
+            if not denied:
+                stand.mode = f"busy {int(mode[5:]) - 1}"
+            self.request.sendall(b"HTTP/1.1 %d X\r\nContent-Length: 0\r\nConnection: close\r\n\r\n"
+                                 % (403 if denied else 429))
             return
         with socket.create_connection(("127.0.0.1", stand.back)) as back:
             back.sendall(data)

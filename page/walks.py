@@ -3,6 +3,7 @@ import base64
 import json
 import re
 import time
+import zipfile
 
 import devtools
 import stand as stands
@@ -149,7 +150,8 @@ def try_all(tally, browser, stand, wanted):
     """Tries each walk, in one tab."""
     page = Page(browser, stand)
     walks = (first_day, imports, looking, sending, troubles, tabs, receiving, finishing, faults, journals, overview,
-             keeping, bound, bank_files, statements, hostile, styles, broken, rights, others, german, access, large)
+             keeping, bound, names, bank_files, statements, hostile, styles, broken, rights, others, german, access,
+             large)
     for walk in walks:
         if wanted and walk.__name__ not in wanted:
             continue
@@ -933,6 +935,45 @@ def bound(holds, page, browser):
           and "close:2026-12-31" in page.text("#outcome pre") and count_of(stand, "pair") == 8, page.text())
 
 
+def names(holds, page, browser):
+    """Books with names of their own: what is closed is ticked, and names that look like others are marked."""
+    stand = page.stand
+    stand.do(what="branch", name="verein")
+    stand.do(what="import", branch="verein", journal="2026-01-02 Anfang\n  Vermögen:Kasse  100.00 EUR\n  Eigenes\n\n"
+             "2026-01-05 Porto\n  Aufwand:Porto  8.50 EUR\n  Vermögen:Kasse\n\n"
+             "2026-01-06 Beitrag\n  Vermögen:K\u0430sse  60.00 EUR\n  Ertrag:Beiträge\n\n"
+             "2026-01-07 Beitrag\n  vermögen:kasse  5.00 EUR\n  Ertrag:Beiträge\n")
+    page.open("close", branch="verein")
+    ticks = "return [...document.querySelectorAll('#close-which input')].map(it => [it.value, it.checked])"
+    page.tab.until(lambda: page.run(ticks), "the accounts are there")
+    holds("what is income or expense is ticked, whatever its language", page.run(ticks)
+          == [["Aufwand", True], ["Eigenes", False], ["Ertrag", True]] and page.value("close-accounts")
+          == "Aufwand;Ertrag", page.run(ticks))
+    page.tab.click("#close-which input[value=Ertrag]")
+    page.fill("close", day="2026-12-31", into="Eigenes")
+    said = page.check("close")
+    holds("an account without its tick stays", page.value("close-accounts") == "Aufwand"
+          and "Aufwand:Porto  -8.50 EUR = 0.00 EUR" in said and "Ertrag" not in said.split("Accounts")[-1], said)
+    page.put("close-accounts", "Ertrag")
+    holds("the ticks follow the list", page.run(ticks) == [["Aufwand", False], ["Eigenes", False], ["Ertrag", True]])
+    for name in ("Aufwand", "Ertrag"):
+        page.tab.click(f"#close-which input[value={name}]")
+    page.tab.click("#close-which input[value=Ertrag]")
+    said = page.deed("close")
+    holds("all are closed, and the entry is shown", "Done" in said and "Ertrag:Beiträge  65.00 EUR = 0.00 EUR" in said
+          and "Eigenes  -56.50 EUR" in said, said)
+    page.go("close", branch="north")
+    page.tab.until(lambda: page.value("close-accounts") == "", "the list is that of the other branch")
+    page.open("balance", branch="verein", day="2026-12-31")
+    seen = page.text("#balance-report")
+    holds("a letter of another script is marked by its number", "K\\u{430}sse" in seen, seen)
+    holds("accounts that look alike are named", "look alike: Vermögen:Kasse, vermögen:kasse" in seen, seen)
+    holds("the title has the branch", page.run("return document.title") == "Balance – verein – Treasury")
+    page.tab.press("Tab")
+    page.tab.press("Enter")
+    holds("the menu can be skipped", page.run("return document.activeElement.id") == "main")
+
+
 BANK = """Kontostand vom %s:;%s EUR
 
 Buchungstag;Empfänger;Verwendungszweck;Betrag
@@ -976,6 +1017,37 @@ def bank_files(holds, page, browser):
           in page.text("#bank-lines") and page.value("bank-counter-3") == "income:dues", page.text("#bank-lines"))
     said = page.deed("bank")
     holds("only the rest is new", "2 entries are new, already there: 2" in said, said)
+    page.tab.files("#bank-file", stand.folder / "half.csv", stand.folder / "whole.csv")
+    page.run(PAUSE)
+    page.settle()
+    holds("what lies in two files counts once", "4: 0 to enter, 3 there already, 1 like" in page.text("#bank-lines")
+          and "Lines that lie in several files, and count once\n3" in page.text("#bank-lines"),
+          page.text("#bank-lines"))
+    holds("and all of it is there", "already there: 5" in page.check("bank"), page.text())
+    with zipfile.ZipFile(stand.folder / "both.zip", "w", zipfile.ZIP_DEFLATED) as both:
+        for name in ("half.csv", "whole.csv"):
+            both.write(stand.folder / name, name)
+        both.writestr("readme.txt", "no statement")
+    page.tab.files("#bank-file", stand.folder / "both.zip")
+    page.run(PAUSE)
+    page.settle()
+    said = page.text("#bank-lines")
+    holds("a ZIP of them is read, too, and what is no statement is named", "4: 0 to enter, 3 there already" in said
+          and "No line of a statement was found in readme.txt" in said, said)
+    page.put("bank-account", "assets:collective")
+    page.tab.files("#bank-file", stands.TOP / "page" / "samples" / "collective.xml")
+    page.run(PAUSE)
+    page.settle()
+    holds("the parts of a collective booking are told", "60.00 EUR Anna | Beitrag" in page.text("#bank-lines")
+          and "40.00 EUR Bert | Spende" in page.text("#bank-lines"), page.text("#bank-lines"))
+    for name, account in (("0-0", "income:dues"), ("0-1", "income:gifts"), ("1", "expenses:post")):
+        page.put(f"bank-counter-{name}", account)
+    said = page.deed("bank")
+    entries = stand.ask("/journal/giro")[1].split("\n\n")
+    holds("each part goes to its account", "3 entries are new" in said and any(
+        "assets:collective  100.00 EUR\n    income:dues  -60.00 EUR\n    income:gifts  -40.00 EUR" in it
+        for it in entries), entries[-4:])
+    page.put("bank-account", "assets:giro")
     stand.do(what="import", branch="giro", journal="2026-06-02 wrong\n  expenses:post  7.00 EUR\n  assets:giro\n")
     choose("june.csv", ["05.06.2026;Anna;Beitrag;10,00"], "30.06.2026", "1.045,50")
     said = page.text("#bank-lines")
@@ -1005,6 +1077,52 @@ def statements(holds, page, browser):
     holds("and is the same after the closing", page.text("#statement-report") == before, page.text("#statement-report"))
     page.open("statement", branch="keep", of="all", **{"from": "2026-01-01", "to": "2026-12-31"})
     holds("all branches stand below one another", "centre" in page.text("#statement-report"))
+    three_branches(stand)
+    for turn in ("before", "after"):
+        page.open("statement", branch="west", **{"from": "2031-01-01", "to": "2031-12-31"})
+        rows = {cells[0].strip(): cells[1:] for cells in page.cells("#statement-report tbody tr")}
+        holds(f"a branch's year is right {turn} its closing", {name: rows.get(name) for name in WEST} == WEST, rows)
+        page.open("statement", branch="west", of="all", **{"from": "2031-01-01", "to": "2031-12-31"})
+        rows = {cells[0].strip(): cells[1:] for cells in page.cells("#statement-report tbody tr")}
+        holds(f"so is that of all branches {turn} the closings", {name: rows.get(name) for name in ALL} == ALL, rows)
+        for name in ("west", "east", "island"):
+            stand.do(what="close", branch=name, day="2031-12-31")
+
+
+# A year of three branches, beside the year before, worked out by hand
+YEARS = {
+    "west": """2030-01-01 opening\n  assets:bank  1,000.00 EUR\n  equity:opening\n
+2030-03-01 dues\n  assets:bank  300.00 EUR\n  income:dues\n
+2030-04-01 rent\n  expenses:rent  120.00 EUR\n  assets:bank\n
+2031-02-01 dues\n  assets:bank  400.00 EUR\n  income:dues\n
+2031-03-01 rent\n  expenses:rent  150.00 EUR\n  assets:bank\n""",
+    "east": """2030-06-01 dues\n  assets:cash  50.00 EUR\n  income:dues\n
+2031-06-01 party\n  expenses:party  80.00 EUR\n  assets:cash\n""",
+    "island": """2031-07-01 loan\n  assets:bank  500.00 EUR\n  liabilities:loan\n
+2031-08-01 interest\n  expenses:interest  10.00 EUR\n  assets:bank\n""",
+}
+WEST = {"Income": ["400.00 EUR", "300.00 EUR"], "Expenses": ["150.00 EUR", "120.00 EUR"],
+        "rent": ["150.00 EUR", "120.00 EUR"], "Surplus": ["250.00 EUR"], "Assets": ["1,180.00 EUR", "1,230.00 EUR"],
+        "Assets less liabilities": ["1,180.00 EUR", "1,230.00 EUR"],
+        "Received from other branches less sent to them": ["-200.00 EUR"],
+        "Change of assets less liabilities": ["50.00 EUR"]}
+ALL = {"Income": ["400.00 EUR", "350.00 EUR"], "Expenses": ["240.00 EUR", "120.00 EUR"],
+       "party": ["80.00 EUR", "0.00 EUR"], "Surplus": ["160.00 EUR"], "west": ["400.00 EUR", "150.00 EUR", "250.00 EUR",
+                                                                              "-200.00 EUR", "1,230.00 EUR"],
+       "east": ["0.00 EUR", "80.00 EUR", "-80.00 EUR", "200.00 EUR", "170.00 EUR"],
+       "island": ["0.00 EUR", "10.00 EUR", "-10.00 EUR", "0.00 EUR", "-10.00 EUR"],
+       "Change of assets less liabilities": ["160.00 EUR"]}
+
+
+def three_branches(stand):
+    """Makes the books of these years, the first of them closed in one branch, with a transfer in the second."""
+    for name, journal in YEARS.items():
+        stand.do(what="branch", name=name)
+        stand.do(what="import", branch=name, journal=journal)
+    stand.do(what="close", branch="west", day="2030-12-31")
+    stand.do(what="dispatch", id="years", **{"from": "west"}, to="east", day="2031-05-01", amount="200.00 EUR",
+             account="assets:bank")
+    stand.do(what="receive", id="years", branch="east", day="2031-05-03", account="assets:cash")
 
 
 def hostile(holds, page, browser):
@@ -1116,6 +1234,18 @@ def broken(holds, page, browser):
     stand.mode = "pass"
     page.press("Try again", "#balance-report")
     holds("try again", "assets" in page.text("#balance-report"), page.text("#balance-report"))
+    stand.mode = "deny /balance/south"
+    page.go("overview", day="2026-12-31")
+    holds("a branch that one may not read is named, and in no sum", "no right to read: south" in
+          page.text("#overview-report") and page.texts("#overview-report .tree thead a") == [
+              it for it in page.run("return [...document.getElementById('branch').options].map(it => it.value)")
+              if it != "south"], page.text("#overview-report"))
+    stand.mode = "busy 2"
+    page.go("transit", day="2026-12-31")
+    holds("where the server is asked too much, the page asks again", "EUR" in page.text("#transit-report"),
+          page.text("#transit-report"))
+    stand.mode = "pass"
+    page.go("balance", branch="north", day="2026-12-31")
     stand.mode = "slow"
     page.run("location.hash = '#balance?branch=south&day=2026-12-31'")
     time.sleep(0.3)
@@ -1148,6 +1278,9 @@ def rights(holds, page, browser):
     """A treasurer of one branch, and an auditor, each with a password of their own."""
     stand = page.stand
     anna = Page(browser, stand, "anna", browser.context())
+    if stand.status("GET", "/me", "anna") == 200:
+        holds("her name stands below the title, and her branch is chosen", anna.text("#me") == "anna"
+              and anna.value("branch") == "north", anna.text("#side"))
     anna.go("import", branch="north")
     anna.put("import-text", "2026-06-01 paper\n    expenses:office  4.00 EUR\n    assets:bank\n")
     holds("a treasurer enters into her branch", "1 entry is new" in anna.deed("import"), anna.text())
@@ -1175,6 +1308,8 @@ def rights(holds, page, browser):
     carla = Page(browser, stand, "carla", browser.context())
     carla.go("register", branch="north", account="assets:bank")
     holds("an auditor looks", "opening" in carla.text("#register-report"))
+    if stand.status("GET", "/me", "carla") == 200:
+        holds("and is offered nothing else", "Close" not in carla.text("nav") and "Balance" in carla.text("nav"))
     carla.go("lock", branch="north")
     carla.fill("lock", day="2026-06-30")
     said = carla.check("lock")

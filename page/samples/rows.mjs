@@ -75,6 +75,12 @@ export const ROWS = [
     lines: [["2026-11-03", "-400.00", "Müller & Söhne", "Miete 11 & 12", "2026110300001"],
       ["2026-11-04", "60.50", "Anna", "RF18"]],
     opening: "1000.00", closings: ["2026-11-30 660.50"], skipped: 1 },
+  // (the parts of the second line do not sum to it)
+  { file: "collective.xml", account: "DE02120300000000202051",
+    lines: [["2026-07-01", "100.00", "Anna, Bert", "Beitrag, Spende", "S1", "",
+      ["60.00", "Anna", "Beitrag"], ["40.00", "Bert", "Spende"]],
+      ["2026-07-02", "-30.00", "Post, Bahn"]],
+    opening: "0.00", closings: ["2026-07-02 70.00"] },
   { file: "mt940.sta", account: "10010010/1111111111",
     lines: [["2025-12-31", "-400.00", "VERMIETER GMBH", "MieteJanuar", "2026ABC"],
       ["2026-01-02", "60.50", "", "Beitrag Anna"],

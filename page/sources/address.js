@@ -9,7 +9,8 @@ const link = (name, values) => `#${name}?` + new URLSearchParams(KEYS
   .filter(key => values[key]).map(key => [key, values[key]]));
 function readAddress() {
   const [name, query] = location.hash.slice(1).split(/\?(.*)/s), asked = new URLSearchParams(query ?? "");
-  const names = branches.map(one => one.name), branch = [asked.get("branch"), view.branch, kept("branch", ""), names[0]]
+  const names = branches.map(one => one.name), own = /^keeper:(.*)$/.exec(me.role)?.[1];
+  const branch = [asked.get("branch"), view.branch, own, kept("branch", ""), names[0]]
     .find(one => names.includes(one)) ?? "";
   const isDay = value => /^[0-9]{4}-[0-9]{2}-[0-9]{2}$/.test(value ?? "");
   const dayAt = (key, otherwise) => isDay(asked.get(key)) ? asked.get(key) : otherwise;
@@ -32,7 +33,7 @@ function showFrame() {
   const { name, branch, day } = view, { hasBranch, hasDay } = VIEWS[name];
   for (const one of Object.keys(VIEWS)) $("view-" + one).hidden = one !== name;
   $("heading").replaceChildren(...phrase(name + "-long", { branch }));
-  document.title = `${text(name)} – ${text("title")}`;
+  document.title = [text(name), hasBranch && branch, text("title")].filter(Boolean).join(" – ");
   $("branch-field").hidden = !hasBranch;
   $("day-field").hidden = !hasDay;
   $("day").value = day;
@@ -55,6 +56,8 @@ function show() {
 async function refresh() {
   setBusy(true);
   try {
+    me = await askMe();
+    showMenu();
     await loadFederation();
     hush();
     changeView();
@@ -72,10 +75,17 @@ function showTexts() {
   $("language-choice").value = language;
   for (const one of all("[data-text]")) one.textContent = text(one.dataset.text);
   for (const one of all("[data-label]")) one.setAttribute("aria-label", text(one.dataset.label));
-  const links = group => Object.keys(VIEWS).filter(name => VIEWS[name].group === group).map(name =>
-    el("li", {}, el("a", { "data-view": name, href: "#" + name }, text(name))));
-  $("views").replaceChildren(...["look", "enter", "finish", "manage"].map(group =>
-    el("div", {}, el("h2", {}, text("group-" + group)), el("ul", {}, links(group)))));
+  showMenu();
   hush();
   showPendings();
+}
+// Whoever may only read is offered nothing else. That it is so is the server's business.
+let me = { name: "", role: "" };
+function showMenu() {
+  const links = group => Object.keys(VIEWS).filter(name => VIEWS[name].group === group).map(name =>
+    el("li", {}, el("a", { "data-view": name, href: "#" + name }, text(name))));
+  const groups = me.role === "reader" ? ["look"] : ["look", "enter", "finish", "manage"];
+  $("views").replaceChildren(...groups.map(group =>
+    el("div", {}, el("h2", {}, text("group-" + group)), el("ul", {}, links(group)))));
+  $("me").textContent = me.name;
 }

@@ -11,6 +11,45 @@ function decoded(bytes, encoding) {
   }
   return { written: new TextDecoder("utf-8").decode(bytes), encoding: "utf-8" };
 }
+// The files in a ZIP, or the file itself; of what is no whole ZIP an empty one, in which nothing is found.
+const MOST_UNPACKED = 64e6;
+async function unpacked(name, bytes) {
+  if (bytes[0] !== 0x50 || bytes[1] !== 0x4b) return [{ name, bytes }];
+  try {
+    const out = [];
+    for (const { name: inside, method, data } of zipParts(bytes)) {
+      out.push({ name: inside, bytes: method === 0 ? data : await inflated(data) });
+    }
+    return out;
+  } catch { return [{ name, bytes: new Uint8Array() }]; }
+}
+function zipParts(bytes) {
+  const seen = new DataView(bytes.buffer, bytes.byteOffset, bytes.byteLength), out = [];
+  let end = bytes.length - 22;
+  while (seen.getUint32(end, true) !== 0x06054b50) end--;
+  let at = seen.getUint32(end + 16, true);
+  for (let left = seen.getUint16(end + 10, true); left > 0; left--) {
+    const [length, extra, comment] = [28, 30, 32].map(step => seen.getUint16(at + step, true));
+    const from = seen.getUint32(at + 42, true), name = new TextDecoder().decode(bytes.subarray(at + 46,
+      at + 46 + length));
+    const begin = from + 30 + seen.getUint16(from + 26, true) + seen.getUint16(from + 28, true);
+    const data = bytes.subarray(begin, begin + seen.getUint32(at + 20, true));
+    if (!/\/$|(^|\/)(\.|__MACOSX)/.test(name)) out.push({ name, method: seen.getUint16(at + 10, true), data });
+    at += 46 + length + extra + comment;
+  }
+  if (!out.length) throw new Error("no file");
+  return out;
+}
+async function inflated(data) {
+  const chunks = [], reader = new Blob([data]).stream().pipeThrough(new DecompressionStream("deflate-raw")).getReader();
+  for (let size = 0; size < MOST_UNPACKED;) {
+    const { value, done } = await reader.read();
+    if (done) return new Uint8Array(await new Blob(chunks).arrayBuffer());
+    chunks.push(value);
+    size += value.length;
+  }
+  throw new Error("too long");
+}
 const fileKind = written => /^\s*</.test(written) ? "xml" : /^:(?:20|25|60[FM]):/m.test(written) ? "mt940" : "csv";
 const collapsed = value => (value ?? "").replace(/\s+/gu, " ").trim();
 // The words of a purpose that has SEPA's parts in it: those behind SVWZ+.
@@ -243,15 +282,28 @@ function readCamt(written, decimals) {
 }
 function camtLine(entry, at, symbol, decimals) {
   const units = camtUnits(entry, symbol, decimals), side = units < 0n ? "Cdtr" : "Dbtr";
-  const details = below(entry, "NtryDtls/TxDtls");
+  const details = below(entry, "NtryDtls/TxDtls"), parts = camtParts(details, units, symbol, decimals);
   const people = details.map(one => textOf(one, `RltdPties/${side}/Nm`, `RltdPties/${side}/Pty/Nm`,
     `RltdPties/Ultmt${side}/Nm`, `RltdPties/Ultmt${side}/Pty/Nm`));
   const purposes = details.map(one => below(one, "RmtInf/Ustrd").map(part => collapsed(part.written)).join(" ")
     || textOf(one, "RmtInf/Strd/CdtrRefInf/Ref", "AddtlTxInf"));
   return { at, units, day: textOf(entry, "BookgDt/Dt", "BookgDt/DtTm", "ValDt/Dt", "ValDt/DtTm").slice(0, 10),
     payee: [...new Set(people.filter(Boolean))].join(", "), balance: null,
+    ...(parts && { parts: parts.map((one, step) => ({ units: one, payee: people[step],
+      purpose: sepa(purposes[step]) })) }),
     purpose: purposes.filter(Boolean).map(sepa).join(", ") || textOf(entry, "AddtlNtryInf"),
     reference: textOf(entry, "AcctSvcrRef", "NtryDtls/TxDtls/Refs/AcctSvcrRef", "NtryRef") };
+}
+// The units of the parts of a collective booking, if all are told and sum to it.
+function camtParts(details, units, symbol, decimals) {
+  if (details.length < 2 || units === null) return null;
+  const parts = details.map(one => {
+    const amount = [...below(one, "Amt"), ...below(one, "AmtDtls/TxAmt/Amt")].find(it => it.currency === symbol);
+    const size = amount ? unitsOf(collapsed(amount.written), ".", decimals(symbol)) : null;
+    const isDebit = textOf(one, "CdtDbtInd") ? textOf(one, "CdtDbtInd") === "DBIT" : units < 0n;
+    return size === null ? null : isDebit ? -size : size;
+  });
+  return parts.includes(null) || parts.reduce((sum, one) => sum + one, 0n) !== units ? null : parts;
 }
 // MT940: balances in :60F: and :62F:, a line in :61:, its words in :86:.
 function readMt940(written, decimals) {

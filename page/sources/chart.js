@@ -1,13 +1,13 @@
 // ---------- A balance over time, as a line ----------
 
-// The running balance over time: after each day the last one of the commodity.
-function chart(rows) {
+// The running balance over time: of each commodity the last one after each day.
+async function chart(rows) {
   const days = new Map();
-  for (const [day, , , sum] of rows) {
+  await slowly(rows, ([day, , , sum]) => {
     const { symbol, units } = readAmount(sum);
     if (!days.has(symbol)) days.set(symbol, new Map());
     days.get(symbol).set(day, units);
-  }
+  });
   const symbols = [...days.keys()].filter(one => days.get(one).size > 1)
     .sort((one, two) => days.get(two).size - days.get(one).size);
   if (!symbols.length) return null;

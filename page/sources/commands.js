@@ -56,7 +56,7 @@ function typedAmount(id) {
 // What is left of a transfer that is to be received as a whole.
 async function leftOf(request) {
   if (request.do !== "receive" || request.part) return null;
-  return (await report("/transfers/" + FOREVER)).find(row => row[5] === request.id)?.[2] ?? null;
+  return (await report("/transfers/" + FOREVER).catch(orDenied([]))).find(row => row[5] === request.id)?.[2] ?? null;
 }
 // An amount that was read otherwise than it looks is confirmed by itself, before the button works.
 function confirmed(notes, act) {

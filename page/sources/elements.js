@@ -30,21 +30,9 @@ function el(names, attributes = {}, ...inside) {
   return made;
 }
 const button = (key, click, classes = "") => el("button" + classes, { type: "button", click }, text(key));
-// A text from elsewhere: its direction is its own. Characters that nobody sees, or that turn the direction of what
-// stands beside them, are shown by their numbers.
-const UNSEEN = new RegExp("[\\0-\\x08\\x0b-\\x1f\\x7f-\\x9f\\xad\\u061c\\u180e\\u200b\\u200e\\u200f\\u2028-\\u202e"
-  + "\\u2060-\\u206f\\ufeff\\ufff9-\\ufffb]", "gu");
-function shown(value) {
-  const given = String(value), out = el("bdi", { dir: "auto" });
-  let from = 0;
-  for (const found of given.matchAll(UNSEEN)) {
-    const escape = "\\u{" + found[0].codePointAt(0).toString(16) + "}";
-    out.append(given.slice(from, found.index), el("span.unseen", {}, escape));
-    from = found.index + 1;
-  }
-  out.append(given.slice(from));
-  return out;
-}
+// A text from elsewhere: its direction is its own, and what would not be seen in it is.
+const shown = value => el("bdi", { dir: "auto" }, seenParts(String(value)).map((part, at) =>
+  at % 2 ? el("span.unseen", {}, part) : part));
 // What the treasury says, in the language of the page where it is known there, and otherwise in its own.
 const patternOf = ([form, wanted]) => {
   const parts = form.split("{}").map(part => part.replace(/[.*+?^${}()|[\]\\]/g, "\\$&"));

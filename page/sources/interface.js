@@ -1,13 +1,22 @@
 // ---------- Asking the treasury ----------
 
 const WAIT = 130000;
-const DENIED = { 401: "no-login", 403: "no-right", 404: "no-route", 413: "too-long" };
+const DENIED = { 401: "no-login", 403: "no-right", 404: "no-route", 413: "too-long", 429: "too-many" };
 const REFUSED_BY = [400, 409, 422, 500, 503];
 const COLUMNS = { branches: 3, commodities: 1, accounts: 1, balance: 2, register: 6, transit: 3, transfers: 6,
   journal: 1 };
 const areTexts = list => Array.isArray(list) && list.every(one => typeof one === "string");
-// One request and one reply. What is not understood as a whole counts as no reply.
+// A request to which the server says that there are too many comes to nothing, and is sent again after a while.
+const TRIES = 10;
 async function ask(path, request) {
+  for (let tries = 1; ; tries++) {
+    const reply = await askOnce(path, request);
+    if (reply.status !== 429 || tries === TRIES) return reply;
+    await new Promise(go => setTimeout(go, 1000));
+  }
+}
+// One request and one reply. What is not understood as a whole counts as no reply.
+async function askOnce(path, request) {
   const stop = new AbortController(), clock = setTimeout(() => stop.abort(), WAIT);
   try {
     const reply = await fetch(location.origin + path, {
@@ -20,7 +29,10 @@ async function ask(path, request) {
     if (DENIED[status]) return { kind: "denied", status, why: text(DENIED[status]) };
     const strange = { kind: "unknown", status, why: text("strange", { status }) };
     const body = new TextDecoder("utf-8", { fatal: true, ignoreBOM: true }).decode(await reply.arrayBuffer());
-    return understood(status, objectOf(body), path.split(/[/?]/)[1], Boolean(request)) ?? strange;
+    await rest();
+    const found = objectOf(body);
+    await rest();
+    return understood(status, found, path.split(/[/?]/)[1], Boolean(request)) ?? strange;
   } catch {
     return { kind: "unknown", why: text(stop.signal.aborted ? "no-reply" : "no-connection") };
   } finally {
@@ -51,6 +63,15 @@ function understood(status, found, route, isCommand) {
   const counts = /^ok ([0-9]+) new, ([0-9]+) repeated$/.exec(answer);
   return counts && { kind: "imported", added: Number(counts[1]), old: Number(counts[2]), notes, ...count };
 }
+// Who asks, and in which role, where the server tells it.
+async function askMe() {
+  try {
+    const reply = await fetch(location.origin + "/me", { cache: "no-store", credentials: "same-origin",
+      redirect: "error", referrerPolicy: "no-referrer" });
+    const { name, role } = reply.ok ? await reply.json() : {};
+    return areTexts([name, role]) ? { name, role } : { name: "", role: "" };
+  } catch { return { name: "", role: "" }; }
+}
 // The lines of a report; what is none is thrown.
 async function report(path) {
   const reply = await ask(path);
@@ -63,6 +84,11 @@ class Trouble extends Error {
     this.reply = reply;
   }
 }
+// For a report that one may not have.
+const orDenied = otherwise => trouble => {
+  if (trouble.reply?.kind === "denied") return otherwise;
+  throw trouble;
+};
 const encoded = encodeURIComponent;
 const registerPath = (branch, account, tag) =>
   `/register/${encoded(branch)}?account=${encoded(account)}${tag ? "&tag=" + encoded(tag) : ""}`;

@@ -48,7 +48,7 @@ function showPendings() {
     const isGone = one.isTextless && !one.request.journal;
     return panel("wait",
       el("p", {}, el("strong", {}, text("pending", { what: text("do-" + one.request.do) }))),
-      described(one.request, [[text("first-sent"), new Date(one.when).toLocaleString(language)]]),
+      described(one.request, [[text("first-sent"), el("span", {}, new Date(one.when).toLocaleString(language))]]),
       isGone ? el("p", {}, text("same-file")) : null,
       one.isUnkept ? el("p", {}, text("keeps-nothing")) : null,
       isGone ? buttons(button("did-that", () => forget(one))) : buttons(

@@ -32,13 +32,32 @@ async function fill(place, load) {
   box.setAttribute("aria-busy", "false");
   box.dispatchEvent(new Event("filled"));
 }
+// Goes through many things without holding up the page: it rests every few milliseconds.
+const REST = 25;
+const rest = () => new Promise(go => setTimeout(go));
+async function slowly(items, act) {
+  const out = [];
+  let since = performance.now();
+  for (const [at, one] of items.entries()) {
+    out.push(act(one, at));
+    if (at % 32 || performance.now() - since < REST) continue;
+    await rest();
+    since = performance.now();
+  }
+  return out;
+}
 // The books that were loaded. A book only grows: with as many entries it is the same book.
-const books = new Map();
+const books = new Map(), loadings = new Map();
 async function bookOf(branch) {
   await loadFederation();
   const count = branches.find(one => one.name === branch)?.entries, had = books.get(branch);
   if (had && had.length === count) return had;
-  const book = (await report("/journal/" + encoded(branch))).map(([written], at) => entryOf(written, at + 1));
+  if (!loadings.has(branch)) loadings.set(branch, loadBook(branch).finally(() => loadings.delete(branch)));
+  return loadings.get(branch);
+}
+async function loadBook(branch) {
+  const lines = await report("/journal/" + encoded(branch));
+  const book = await slowly(lines, ([written], at) => entryOf(written, at + 1));
   books.set(branch, book);
   return book;
 }

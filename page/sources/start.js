@@ -17,6 +17,7 @@ $("language-choice").addEventListener("change", event => {
   showTexts();
   changeView();
 });
+$("skip").addEventListener("click", () => $("main").focus());
 $("menu").addEventListener("click", event => {
   event.target.setAttribute("aria-expanded", String($("side").classList.toggle("is-open")));
 });

@@ -7,8 +7,12 @@ function balance(isSearch = false) {
     if (!isSearch || balanceRows.key !== key) balanceRows = { key, rows: await report(key) };
     const { rows } = balanceRows;
     const caption = phrase("balance-through", { branch, day });
-    return [onPaper(text("balance-through", { branch, day })), ...tree("balance", caption, [rows], [text("running")],
-      account => link("register", { branch, account, day }), $("balance-find").value, rows.length > 400 ? 1 : 9)];
+    const likes = alike(rows.map(([, account]) => account).filter((name, at, names) => names.indexOf(name) === at));
+    const warning = likes.length ? panel("wait", likes.map(names =>
+      el("p", {}, phrase("alike", { names: names.join(", ") })))) : null;
+    const target = account => link("register", { branch, account, day }), depth = rows.length > 400 ? 1 : 9;
+    return [onPaper(text("balance-through", { branch, day })), warning,
+      ...tree("balance", caption, [rows], [text("running")], target, $("balance-find").value, depth)];
   });
 }
 

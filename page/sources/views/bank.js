@@ -8,30 +8,35 @@ const ROLES = { day: "day", amount: "amount", debit: "role-debit", credit: "role
   state: "role-state" };
 const bankSymbol = () => bank.statements?.[bank.which]?.symbol ?? bank.setting?.symbol ?? zeroSymbol();
 const decimalsOf = symbol => styles.get(symbol)?.decimals ?? 2;
-async function chooseBank(file) {
-  bank = { bytes: new Uint8Array(await file.arrayBuffer()), name: file.name, which: 0, encoding: "" };
+async function chooseBank(files) {
+  const read = [];
+  for (const file of files) read.push(...await unpacked(file.name, new Uint8Array(await file.arrayBuffer())));
+  bank = { files: read, which: 0, encoding: "" };
   readBank();
 }
-// Reads the file anew: how it is read is what was last chosen for such a file, or guessed.
+// Reads the files anew: how they are read is what was last chosen for such files, or guessed from the first of them.
 function readBank() {
   hush();
-  const { written, encoding } = decoded(bank.bytes, bank.encoding), kind = fileKind(written);
-  bank.encoding = encoding;
-  bank.kind = kind;
-  if (kind === "csv") {
-    const guess = csvSetting(written), form = guess.head.join("\n") || JSON.stringify(guess.columns);
-    bank.key = String(sumOf(form));
-    const had = kept("bank " + bank.key, {});
-    bank.head = guess.head.length ? guess.head : (csvRows(written, guess.delimiter)[guess.first]?.cells ?? []);
-    bank.setting ??= { symbol: zeroSymbol(), ...guess, ...had.setting, first: guess.first };
-    bank.statements = [readCsv(written, bank.setting, decimalsOf(bank.setting.symbol))];
-  } else {
-    bank.statements = (kind === "xml" ? readCamt : readMt940)(written, decimalsOf);
-    bank.key = bank.statements?.[bank.which]?.account ?? "";
-  }
-  if (bank.statements) bank.statements = sameAccount(bank.statements);
+  const texts = bank.files.map(({ name, bytes }) => ({ name, ...decoded(bytes, bank.encoding) }));
+  bank.encoding = texts[0].encoding;
+  bank.kind = fileKind(texts[0].written);
+  if (bank.kind === "csv") setCsv(texts[0].written);
+  const found = texts.map(({ written }) => fileKind(written) !== bank.kind ? [] : bank.kind !== "csv"
+    ? (bank.kind === "xml" ? readCamt : readMt940)(written, decimalsOf) ?? []
+    : [readCsv(written, { ...bank.setting, first: csvSetting(written).first }, decimalsOf(bank.setting.symbol))]);
+  bank.empty = texts.filter((_, at) => !found[at].some(({ lines, closings }) => lines.length + closings.length))
+    .map(({ name }) => name);
+  bank.statements = sameAccount(found.flatMap((statements, file) => statements.map(one =>
+    ({ ...one, lines: one.lines.map(line => ({ ...line, file })) }))));
+  if (bank.kind !== "csv") bank.key = bank.statements[bank.which]?.account ?? "";
   if (!valueOf("bank-account")) $("bank-account").value = kept("bank " + bank.key, {}).account ?? "";
   showBank();
+}
+function setCsv(written) {
+  const guess = csvSetting(written), form = guess.head.join("\n") || JSON.stringify(guess.columns);
+  bank.key = String(sumOf(form));
+  bank.head = guess.head.length ? guess.head : (csvRows(written, guess.delimiter)[guess.first]?.cells ?? []);
+  bank.setting ??= { symbol: zeroSymbol(), ...guess, ...kept("bank " + bank.key, {}).setting };
 }
 function keepBank() {
   const setting = bank.kind === "csv" ? bank.setting : undefined;
@@ -43,19 +48,31 @@ async function digest(parts) {
   return [...sum.slice(0, 12)].map(one => one.toString(16).padStart(2, "0")).join("");
 }
 const isReference = value => /[0-9]/.test(value) && !/^(NONREF|NOTPROVIDED|0+)$/i.test(value);
-// The marks of lines: the digest of what the bank says of one, and which one of its like it is in the file. With a
+// The marks of lines: the digest of what the bank says of one, and which one of its like it is in its file. With a
 // reference of the bank the words do not count, because banks change them.
 async function marksOf(lines, account) {
   const counts = new Map(), marks = [];
   for (const line of lines) {
-    const { day, units, reference, payee, purpose } = line;
+    const { day, units, reference, payee, purpose, file } = line;
     const words = isReference(reference) ? [reference] : [payee, purpose];
-    const sum = await digest([account, day, String(units), ...words]), count = (counts.get(sum) ?? 0) + 1;
-    counts.set(sum, count);
-    marks.push(`bank-${sum}-${count}`);
+    const sum = await digest([account, day, String(units), ...words]), place = `${file} ${sum}`;
+    counts.set(place, (counts.get(place) ?? 0) + 1);
+    marks.push(`bank-${sum}-${counts.get(place)}`);
   }
   return marks;
 }
+// What lies in several files counts once.
+function onceEach(all, marks) {
+  const seen = new Set();
+  return all.filter((one, at) => {
+    const isNew = !seen.has(marks[at]);
+    one.mark = marks[at];
+    seen.add(one.mark);
+    return isNew;
+  });
+}
+// A collective booking has parts; any other line is its own part.
+const partsOf = line => line.parts ?? [line];
 // What the book has of a line already: its mark; or else an entry with its amount on the account, made by hand or by a
 // transfer, a few days away; or one with another file's mark on the very day.
 const NEAR = 5;
@@ -109,7 +126,8 @@ function receiveLine({ transfer, day }) {
 }
 // What was found for another account or branch is forgotten.
 function forgetMatches() {
-  for (const one of bank.statements?.flatMap(({ lines, closings }) => [...lines, ...closings]) ?? []) {
+  const all = bank.statements.flatMap(({ lines, closings }) => [...lines, ...lines.flatMap(partsOf), ...closings]);
+  for (const one of all) {
     for (const key of ["held", "like", "isTaken", "counter", "transfer", "isTransfer"]) delete one[key];
   }
 }
@@ -123,10 +141,12 @@ function proposeCounters(lines, book, account) {
     const legs = legsOf(entry), own = legs.filter(leg => leg.account === account);
     const others = legs.filter(leg => leg.account !== account);
     if (own.length === 1 && others.length === 1) {
-      known.set(`${own[0].units < 0n} ${payeeKey(entry.description)}`, others[0].account);
+      known.set(`${own[0].units < 0n} ${entry.payee}`, others[0].account);
     }
   }
-  for (const line of lines) line.counter ??= known.get(`${line.units < 0n} ${payeeKey(wordsOf(line))}`) ?? "";
+  for (const part of lines.flatMap(partsOf)) {
+    part.counter ??= known.get(`${part.units < 0n} ${payeeKey(wordsOf(part))}`) ?? "";
+  }
 }
 const endMark = async (account, { day, units }) => `bank-end-${day}-${await digest([account, String(units)])}`;
 async function showBank() {
@@ -140,28 +160,33 @@ async function showBank() {
   if (bank.kind === "csv") showSetting();
   await fill("bank-lines", async isLast => {
     const statement = bank.statements?.[bank.which], account = valueOf("bank-account").trim(), symbol = bankSymbol();
+    const nothing = bank.empty.map(file => panel("bad", el("p", {}, phrase("bank-unread", { file }))));
     if (!statement || !(statement.lines.length + statement.closings.length)) {
-      const nothing = panel("bad", el("p", {}, text("bank-unread", { file: bank.name })));
-      return [nothing, unreadLines(statement?.unread ?? [])];
+      return [...nothing, unreadLines(statement?.unread ?? [])];
     }
-    const { lines, closings } = statement, book = account ? await bookOf(view.branch) : [];
+    const book = account ? await bookOf(view.branch) : [];
     if (!styles.has(symbol)) return [panel("bad", el("p", {}, text("bank-symbol", { symbol })))];
-    const marks = await marksOf(lines, account), ends = await Promise.all(closings.map(one => endMark(account, one)));
-    const open = (await report("/transfers/" + FOREVER)).filter(row => row[4] === view.branch);
+    const marks = await marksOf(statement.lines, account);
+    const ends = await Promise.all(statement.closings.map(one => endMark(account, one)));
+    const open = (await report("/transfers/" + FOREVER).catch(orDenied([])))
+      .filter(row => row[4] === view.branch);
     if (!isLast()) return [];
-    lines.forEach((line, at) => { line.mark = marks[at]; });
+    const lines = onceEach(statement.lines, marks), closings = onceEach(statement.closings, ends);
+    const doubled = (statement.doubled ?? 0) + statement.lines.length - lines.length;
+    Object.assign(statement, { lines, closings, doubled });
     if (account) {
+      await slowly(book, entry => { entry.payee ??= payeeKey(entry.description); return legsOf(entry); });
+      if (!isLast()) return [];
       matchLines(lines, book, account, symbol);
       matchTransfers(lines, open, symbol);
       proposeCounters(lines, book, account);
     }
-    for (const [at, one] of closings.entries()) {
-      one.mark = ends[at];
+    for (const one of closings) {
       one.held = book.find(({ mark }) => mark === one.mark) ?? null;
       one.isTaken ??= true;
     }
     Object.assign(bank, { book, account, isReady: Boolean(account) });
-    return bankReport(statement, account, symbol);
+    return [...nothing, ...bankReport(statement, account, symbol)];
   });
 }
 // The settings of a file with separated values: each can be corrected, and the table below follows.
@@ -191,7 +216,7 @@ function booksThrough(account, symbol, day, lines) {
     .filter(leg => leg.account === account && leg.symbol === symbol);
   return sumOfLines(legs) + sumOfLines(lines.filter(line => !line.held && line.isTaken && line.day <= day));
 }
-function bankReport({ lines, unread, skipped, closings, opening, gap }, account, symbol) {
+function bankReport({ lines, unread, skipped, closings, opening, gap, doubled }, account, symbol) {
   const print = units => printAmount(symbol, units), [first] = lines, last = lines.at(-1), sum = sumOfLines(lines);
   const count = isSo => lines.filter(isSo).length;
   const counts = { all: lines.length, n: count(one => !one.held && one.isTaken), old: count(one => one.held),
@@ -202,7 +227,8 @@ function bankReport({ lines, unread, skipped, closings, opening, gap }, account,
     facts([[text("lines-read"), text("lines-counts", counts)],
       first && [text("from-to"), `${first.day} – ${last.day}`], [text("sum"), print(sum)],
       opening === null ? null : [text("opening"), print(opening)],
-      skipped ? [text("not-booked"), String(skipped)] : null]),
+      skipped ? [text("not-booked"), String(skipped)] : null,
+      doubled ? [text("in-several"), String(doubled)] : null]),
     gap || !isWhole ? panel("wait", el("p", {}, text("file-gap", { day: gap?.day ?? closings[0].day }))) : null,
     unreadLines(unread),
     account ? lines.length ? bankTable(lines, symbol) : null : el("p", {}, text("choose-account")),
@@ -229,14 +255,19 @@ function bankTable(lines, symbol) {
     const pick = el("input", { type: "checkbox", checked: !held && line.isTaken, disabled: Boolean(held),
       "aria-label": text("enter-line", { day, what: words }),
       change: event => { line.isTaken = event.target.checked; hush(); showBank(); } });
-    const field = el("input", { id: `bank-counter-${at}`, list: "accounts", value: line.counter ?? "",
-      autocomplete: "off", spellcheck: "false", "aria-label": `${text("counter-account")}: ${day} ${words}`,
-      change: event => chooseCounter(lines, line, event.target.value.trim()) });
+    const fields = partsOf(line).map((part, step) => {
+      const label = line.parts ? `${printAmount(symbol, part.units)} ${wordsOf(part)}` : "";
+      part.id = `bank-counter-${at}${line.parts ? "-" + step : ""}`;
+      return [label && el("label", { for: part.id }, shown(label)), el("input", { id: part.id, list: "accounts",
+        value: part.counter ?? "", autocomplete: "off", spellcheck: "false", placeholder: text("counter-account"),
+        "aria-label": `${text("counter-account")}: ${day} ${label || words}`,
+        change: event => chooseCounter(lines, part, event.target.value.trim()) })];
+    });
     return el(held ? "tr.held" : "tr", {}, el("td", {}, pick), el("td.day", {}, day),
       el("td.name.across", {}, shown(words)), amountCell(printAmount(symbol, units)),
       el("td.across", {}, known ? toKnown(known, held ? "held-line" : "like-line") : null,
         !known && line.transfer ? receiveLine(line) : null,
-        held || ((like || line.transfer) && !line.isTaken) ? null : field));
+        held || ((like || line.transfer) && !line.isTaken) ? null : fields));
   };
   const table = (some, isFirst) => el("table.rows.bank" + (isFirst ? "" : ".further"), {},
     headRow(["enter-it", "day", "description"], ["amount"], false, ["counter-account"]),
@@ -245,15 +276,15 @@ function bankTable(lines, symbol) {
   return [el("div.wide", {}, place), state, controls];
 }
 // What is chosen for one line is proposed for the others of the same payee.
-function chooseCounter(lines, line, account) {
-  line.counter = account;
-  lines.forEach((other, at) => {
-    const isAlike = !other.counter && payeeKey(wordsOf(other)) === payeeKey(wordsOf(line))
-      && (other.units < 0n) === (line.units < 0n);
-    if (!isAlike) return;
+function chooseCounter(lines, part, account) {
+  part.counter = account;
+  for (const other of lines.flatMap(partsOf)) {
+    const isAlike = !other.counter && payeeKey(wordsOf(other)) === payeeKey(wordsOf(part))
+      && (other.units < 0n) === (part.units < 0n);
+    if (!isAlike) continue;
     other.counter = account;
-    if ($(`bank-counter-${at}`)) $(`bank-counter-${at}`).value = account;
-  });
+    if (other.id && $(other.id)) $(other.id).value = account;
+  }
 }
 function closingRow(one, at, account, symbol, lines) {
   const books = booksThrough(account, symbol, one.day, lines), print = units => printAmount(symbol, units);
@@ -299,6 +330,11 @@ function missing(difference, day, symbol, lines) {
       shown(wordsOf(line)))),
     isOlder || only.length || left.length || hits.length ? null : el("li", {}, text("missing-nothing"))));
 }
+function counterOf(line, part) {
+  const isShown = part.id && $(part.id);
+  if (part.counter) return isShown ? typedAccount(part.id) : part.counter;
+  throw new Mistake(isShown ? part.id : "bank-account", "counter-missing", { day: line.day, what: wordsOf(part) });
+}
 // (the book is looked at anew, because somebody else may have entered lines meanwhile)
 async function bankRequest() {
   await showBank();
@@ -308,17 +344,12 @@ async function bankRequest() {
   }
   keepBank();
   const made = [], symbol = bankSymbol();
-  statement.lines.forEach((line, at) => {
+  for (const line of statement.lines) {
     if (line.held) made.push(line.held.written);
-    if (line.held || !line.isTaken) return;
-    const id = `bank-counter-${at}`;
-    if (!line.counter) {
-      throw new Mistake($(id) ? id : "bank-account", "counter-missing", { day: line.day, what: wordsOf(line) });
-    }
-    const counter = $(id) ? typedAccount(id) : line.counter;
+    if (line.held || !line.isTaken) continue;
     made.push(entryText(line.day, wordsOf(line), line.mark, [{ account, symbol, units: line.units },
-      { account: counter, symbol, units: -line.units }]));
-  });
+      ...partsOf(line).map(part => ({ account: counterOf(line, part), symbol, units: -part.units }))]));
+  }
   for (const one of statement.closings) {
     if (one.held) made.push(one.held.written);
     else if (one.isTaken) {
@@ -338,5 +369,7 @@ async function bankPreview({ branch, journal }) {
 
 VIEWS.bank = { group: "enter", show: showBank, hasBranch: true };
 FORMS.bank = { request: bankRequest, preview: bankPreview };
-$("bank-file").addEventListener("change", event => { if (event.target.files[0]) chooseBank(event.target.files[0]); });
+$("bank-file").addEventListener("change", event => {
+  if (event.target.files.length) chooseBank([...event.target.files]);
+});
 $("bank-account").addEventListener("change", () => { if (bank) showBank(); });

@@ -10,7 +10,7 @@ function register() {
 }
 const accountList = lines =>
   [el("ul.accounts", {}, lines.map(([name]) => el("li", {}, toRegister(name, view.branch))))];
-function registerTable(whole) {
+async function registerTable(whole) {
   const { branch, account, tag, from, day: through } = view;
   const rows = whole.filter(([day]) => day >= from && day <= through);
   const later = whole.filter(([day]) => day > through).length;
@@ -42,10 +42,10 @@ function registerTable(whole) {
   const [place, state, controls] = inSteps(isOldFirst ? rows : rows.toReversed(), 2.3, "postings-some", table);
   place.style.setProperty("--least", `calc(${widest(2)} + ${widest(3)} + ${hasAccounts ? "63ch" : "43ch"})`);
   const sums = new Map();
-  for (const row of rows) add(sums, readAmount(row[2]));
+  if (from) await slowly(rows, row => add(sums, readAmount(row[2])));
   return [
     from ? el("p", {}, text("moved-in", { from, to: through }), ": ", amounts(sums, zeroSymbol())) : null, hidden,
-    chart(rows),
+    await chart(rows),
     el("div.wide", {}, place),
     state, controls,
     buttons(button(isOldFirst ? "newest-first" : "oldest-first", turn), printButton()),
