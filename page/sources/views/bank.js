@@ -6,41 +6,51 @@ let bank = null;
 const ROLES = { day: "day", amount: "amount", debit: "role-debit", credit: "role-credit", sign: "role-sign",
   payee: "role-payee", payer: "role-payer", purpose: "role-purpose", reference: "role-reference", balance: "running",
   state: "role-state" };
-const bankSymbol = () => bank.statements?.[bank.which]?.symbol ?? bank.setting?.symbol ?? zeroSymbol();
+const bankSymbol = () => bank.statements[bank.which]?.symbol ?? zeroSymbol();
 const decimalsOf = symbol => styles.get(symbol)?.decimals ?? 2;
 async function chooseBank(files) {
-  const read = [];
-  for (const file of files) read.push(...await unpacked(file.name, new Uint8Array(await file.arrayBuffer())));
+  const read = [], bytesOf = file => file.arrayBuffer().catch(() => new ArrayBuffer());
+  $("bank-lines").setAttribute("aria-busy", "true");
+  for (const file of files) read.push(...await unpacked(file.name, new Uint8Array(await bytesOf(file))));
   bank = { files: read, which: 0, encoding: "" };
   readBank();
 }
-// Reads the files anew: how they are read is what was last chosen for such files, or guessed from the first of them.
+// Reads the files anew: those with separated values as was last chosen for such a file, or as is guessed from the first
+// one that has lines.
 function readBank() {
   hush();
   const texts = bank.files.map(({ name, bytes }) => ({ name, ...decoded(bytes, bank.encoding) }));
-  bank.encoding = texts[0].encoding;
-  bank.kind = fileKind(texts[0].written);
-  if (bank.kind === "csv") setCsv(texts[0].written);
-  const found = texts.map(({ written }) => fileKind(written) !== bank.kind ? [] : bank.kind !== "csv"
-    ? (bank.kind === "xml" ? readCamt : readMt940)(written, decimalsOf) ?? []
-    : [readCsv(written, { ...bank.setting, first: csvSetting(written).first }, decimalsOf(bank.setting.symbol))]);
+  const tables = texts.filter(({ written }) => fileKind(written) === "csv");
+  const first = tables.find(({ written }) => readCsv(written, csvSetting(written), 2).lines.length) ?? tables[0];
+  bank.setting = first && csvFor(first.written, bank.setting);
+  bank.encoding = (first ?? texts[0]).encoding;
+  const readers = { xml: readCamt, mt940: readMt940, csv: readTable };
+  const found = texts.map(({ written }) => readers[fileKind(written)](written, decimalsOf) ?? []);
   bank.empty = texts.filter((_, at) => !found[at].some(({ lines, closings }) => lines.length + closings.length))
     .map(({ name }) => name);
   bank.statements = sameAccount(found.flatMap((statements, file) => statements.map(one =>
     ({ ...one, lines: one.lines.map(line => ({ ...line, file })) }))));
-  if (bank.kind !== "csv") bank.key = bank.statements[bank.which]?.account ?? "";
-  if (!valueOf("bank-account")) $("bank-account").value = kept("bank " + bank.key, {}).account ?? "";
+  if (!valueOf("bank-account")) $("bank-account").value = kept("bank " + bankKey(), {}).account ?? "";
   showBank();
 }
-function setCsv(written) {
-  const guess = csvSetting(written), form = guess.head.join("\n") || JSON.stringify(guess.columns);
-  bank.key = String(sumOf(form));
-  bank.head = guess.head.length ? guess.head : (csvRows(written, guess.delimiter)[guess.first]?.cells ?? []);
-  bank.setting ??= { symbol: zeroSymbol(), ...guess, ...kept("bank " + bank.key, {}).setting };
+const tableForm = ({ head, columns }) => head.join("\n") || JSON.stringify(columns);
+function csvFor(written, setting) {
+  const guess = csvSetting(written), key = String(sumOf(tableForm(guess)));
+  const names = guess.head.length ? guess.head : csvRows(written, guess.delimiter)[guess.first]?.cells ?? [];
+  return { symbol: zeroSymbol(), ...guess, ...kept("bank " + key, {}).setting, ...setting, key, names };
 }
+// A file with other heads than the first one is read as is guessed from itself.
+function readTable(written) {
+  const own = csvSetting(written), { setting } = bank, isAlike = String(sumOf(tableForm(own))) === setting.key;
+  const used = isAlike ? { ...setting, first: own.first } : { ...own, symbol: setting.symbol };
+  return [{ ...readCsv(written, used, decimalsOf(setting.symbol)), symbol: setting.symbol, account: "" }];
+}
+// What is kept of a bank is kept under its account there, or under the heads of its file.
+const bankKey = () => bank.statements?.[bank.which]?.account || bank.setting?.key || "";
 function keepBank() {
-  const setting = bank.kind === "csv" ? bank.setting : undefined;
-  keep("bank " + bank.key, { account: valueOf("bank-account"), setting });
+  const { order, mark, delimiter, columns, symbol } = bank.setting ?? {};
+  keep("bank " + bankKey(), { account: valueOf("bank-account"),
+    setting: bankKey() === bank.setting?.key ? { order, mark, delimiter, columns, symbol } : undefined });
 }
 async function digest(parts) {
   const bytes = new TextEncoder().encode(JSON.stringify(parts));
@@ -151,13 +161,13 @@ function proposeCounters(lines, book, account) {
 const endMark = async (account, { day, units }) => `bank-end-${day}-${await digest([account, String(units)])}`;
 async function showBank() {
   loadAccounts().catch(() => {});
-  $("bank-setting").hidden = bank?.kind !== "csv";
+  $("bank-setting").hidden = !bank?.setting;
   if (!bank) return;
   bank.isReady = false;
   const place = `${view.branch} ${valueOf("bank-account").trim()}`;
   if (bank.place !== place) forgetMatches();
   bank.place = place;
-  if (bank.kind === "csv") showSetting();
+  if (bank.setting) showSetting();
   await fill("bank-lines", async isLast => {
     const statement = bank.statements?.[bank.which], account = valueOf("bank-account").trim(), symbol = bankSymbol();
     const nothing = bank.empty.map(file => panel("bad", el("p", {}, phrase("bank-unread", { file }))));
@@ -191,12 +201,12 @@ async function showBank() {
 }
 // The settings of a file with separated values: each can be corrected, and the table below follows.
 function showSetting() {
-  const { setting, head } = bank, reread = () => { bank.statements = null; keepBank(); readBank(); };
+  const { setting } = bank, reread = () => { keepBank(); readBank(); };
   const choice = (key, value, options, change) => el("div.field", {},
     el("label", { for: "bank-" + key }, text(ROLES[key] ?? key)),
     el("select", { id: "bank-" + key, change: event => { change(event.target.value); reread(); } },
       options.map(([name, label]) => el("option", { value: name, selected: String(name) === String(value) }, label))));
-  const columns = [[-1, "–"], ...head.map((name, at) => [at, `${at + 1} ${name}`.slice(0, 40)])];
+  const columns = [[-1, "–"], ...setting.names.map((name, at) => [at, `${at + 1} ${name}`.slice(0, 40)])];
   const columnOf = role => choice(role, setting.columns[role], columns, at => { setting.columns[role] = Number(at); });
   $("bank-columns").replaceChildren(
     choice("encoding", bank.encoding, ["utf-8", "windows-1252", "utf-16le"].map(one => [one, one]),
@@ -238,8 +248,7 @@ function bankReport({ lines, unread, skipped, closings, opening, gap, doubled },
 function accountChoice() {
   const choose = event => {
     bank.which = Number(event.target.value);
-    bank.key = bank.statements[bank.which].account;
-    $("bank-account").value = kept("bank " + bank.key, {}).account ?? "";
+    $("bank-account").value = kept("bank " + bankKey(), {}).account ?? "";
     showBank();
   };
   return el("select", { "aria-label": text("account"), change: choose }, bank.statements.map((one, at) =>
