@@ -746,6 +746,22 @@ def journals(holds, page, browser):
     holds("how many have it is said", "Found in 1 of" in page.text("#journal-report"),
           page.text("#journal-report")[:200])
     holds("and no letter typed asks the treasury", len(stand.seen) == asked, stand.seen[asked:][:2])
+    for fields, found in (({"find": "bank dues"}, ["2026-01-20 dues"]),
+                          ({"find": "", "amount": "20.5 $"}, ["2026-02-28 close", "2026-02-02 flowers"]),
+                          ({"amount": "-120"}, ["2026-02-28 close", "2026-01-05 (17) hall"]),
+                          ({"amount": "", "from": "2026-01-20", "to": "2026-01-31"},
+                           ["2026-01-31 bank statement of January", "2026-01-20 dues"]),
+                          ({"find": "dues", "amount": "1,250"}, ["2026-01-20 dues"])):
+        page.fill("journal", **fields)
+        page.settle()
+        heads = page.run("return [...document.querySelectorAll('#journal-report pre')]"
+                         ".map(it => it.textContent.split('\\n')[0])")
+        holds(f"found by {fields}", heads == found, heads)
+    page.fill("journal", amount="1,25")
+    page.settle()
+    holds("what is no amount finds nothing, and is said", "1,25 is no amount" in page.text("#journal-report"))
+    page.fill("journal", find="", amount="", **{"from": "", "to": ""})
+    page.settle()
     page.press("Save as a file", "#journal-report")
     page.tab.until(lambda: list(downloads.glob("north-*.journal")), "the journal is saved")
     saved = list(downloads.glob("north-*.journal"))

@@ -113,7 +113,9 @@ const TEXTS = {
   "nothing-for": ["Nothing is on the way to {branch}.", "Nichts ist unterwegs an {branch}."],
   "receive-this": ["Receive {id} from {branch}", "{id} von {branch} empfangen"],
 
-  "find-entry": ["Find in the entries", "In den Buchungen suchen"],
+  "find-entry": ["Find words in the entries", "Wörter in den Buchungen suchen"],
+  "amount-empty": ["Amount (may be empty)", "Betrag (kann leer bleiben)"],
+  "to-day-empty": ["Through the day (may be empty)", "Bis zum Tag (kann leer bleiben)"],
   "save": ["Save as a file", "Als Datei sichern"],
   "entries-some": ["{n} of {all} entries", "{n} von {all} Buchungen"],
   "no-entries": ["No entry has that.", "Keine Buchung hat das."],

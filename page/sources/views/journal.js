@@ -2,16 +2,30 @@
 
 // (a mark that the treasury made is no text to be found: it is a number that would hold nearly everything)
 const searched = ({ written }) => written.replace(/\n {4}; bookid:(h|bank|bank-end)-\S*/, "").toLowerCase();
+// What is looked for: all words, an amount on either side, a period. Nothing if it is not understood.
+function wantedEntries() {
+  const words = valueOf("journal-find").toLowerCase().split(/\s+/).filter(Boolean), typed = valueOf("journal-amount");
+  const from = valueOf("journal-from"), to = valueOf("journal-to") || FOREVER, amount = typed && amountTyped(typed);
+  if (amount === null) return null;
+  const isIt = leg => leg.symbol === amount.symbol && [amount.units, -amount.units].includes(leg.units);
+  const isAll = !words.length && !amount && !from && to === FOREVER;
+  const isFound = entry => entry.day >= from && entry.day <= to && (!amount || legsOf(entry).some(isIt))
+    && (!words.length || words.every(word => searched(entry).includes(word)));
+  return { isAll, isFound };
+}
 function journal(isSearch = false) {
   const { branch } = view;
   fill("journal-report", async () => {
-    const book = isSearch && books.get(branch) || await bookOf(branch), wanted = $("journal-find").value.toLowerCase();
-    const found = wanted ? book.filter(one => searched(one).includes(wanted)).reverse() : book.toReversed();
+    const book = isSearch && books.get(branch) || await bookOf(branch), wanted = wantedEntries();
+    if (!wanted) return [el("p", {}, phrase("amount-form", { amount: valueOf("journal-amount"),
+      samples: samples.join(", ") }))];
+    const isIn = await slowly(wanted.isAll ? [] : book, wanted.isFound);
+    const found = wanted.isAll ? book.toReversed() : book.filter((_, at) => isIn[at]).reverse();
     const steps = inSteps(found, 6, "entries-some", some => some.map(({ number, written }) => el("div.entry", {},
       toItem(branch, number, `${text("entry-number")} ${number}`), el("pre", {}, shown(written)))));
     return [buttons(button("save", () => saveJournal(branch, book), ".main")),
-      wanted ? el("p", {}, found.length ? text("found-of", { n: found.length, all: book.length }) : text("no-entries"))
-        : null, steps];
+      wanted.isAll ? null : el("p", {}, found.length ? text("found-of", { n: found.length, all: book.length })
+        : text("no-entries")), steps];
   });
 }
 // The journal report, byte for byte: each text of a transaction and an empty line.
@@ -24,4 +38,6 @@ function saveJournal(branch, book) {
 }
 
 VIEWS.journal = { group: "look", show: journal, hasBranch: true };
-$("journal-find").addEventListener("input", soon(() => journal(true)));
+for (const name of ["find", "amount", "from", "to"]) {
+  $("journal-" + name).addEventListener("input", soon(() => journal(true)));
+}
