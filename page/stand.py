@@ -255,7 +255,11 @@ class Stand:
         connection.request(method, path, headers=sent)
         reply = connection.getresponse()
         reply.read()
-        return reply.status
+        if reply.status != 429:
+            return reply.status
+        # (nginx has been asked too much: this is asked again)
+        time.sleep(1)
+        return self.status(method, path, name, **headers)
 
     def close(self):
         """Ends what was started."""

@@ -78,7 +78,7 @@ class Page:
     def go(self, view, **values):
         """Goes to a view by its address, as a link does."""
         query = "&".join(f"{key}={value}" for key, value in values.items())
-        self.run(f"""const heard = new Promise(go => addEventListener('hashchange', go, {{ once: true }}));
+        self.run(f"""const heard = new Promise(go => window.addEventListener('hashchange', go, {{ once: true }}));
             const before = location.href;
             location.hash = {json.dumps(f'#{view}?{query}')};
             if (location.href !== before) await heard;

@@ -9,7 +9,7 @@ const link = (name, values) => `#${name}?` + new URLSearchParams(KEYS
   .filter(key => values[key]).map(key => [key, values[key]]));
 function readAddress() {
   const [name, query] = location.hash.slice(1).split(/\?(.*)/s), asked = new URLSearchParams(query ?? "");
-  const names = branches.map(one => one.name), own = /^keeper:(.*)$/.exec(me.role)?.[1];
+  const names = branches.map(one => one.name), own = /^keeper:([^,]*)/.exec(me.role)?.[1];
   const branch = [asked.get("branch"), view.branch, own, kept("branch", ""), names[0]]
     .find(one => names.includes(one)) ?? "";
   const isDay = value => /^[0-9]{4}-[0-9]{2}-[0-9]{2}$/.test(value ?? "");
@@ -87,5 +87,5 @@ function showMenu() {
   const groups = me.role === "reader" ? ["look"] : ["look", "enter", "finish", "manage"];
   $("views").replaceChildren(...groups.map(group =>
     el("div", {}, el("h2", {}, text("group-" + group)), el("ul", {}, links(group)))));
-  $("me").textContent = me.name;
+  $("me").replaceChildren(...(me.name ? [shown(me.name)] : []));
 }

@@ -73,8 +73,8 @@ const SAID = [
   ["a read failed, ended too early, or exceeded its limit",
     "ein Lesen ist gescheitert, endete zu früh oder war zu lang"],
   ["a write failed", "ein Schreiben ist gescheitert"],
-  ["the branch has another number of entries than the command expects",
-    "der Zweig hat eine andere Zahl von Buchungen, als der Auftrag erwartet"],
+  ["the branch has another number of entries than `if-entries` says",
+    "der Zweig hat eine andere Zahl von Buchungen, als `if-entries` sagt"],
   ["the amount of a part is more than what is left, or in another commodity",
     "der Betrag des Teils ist größer als das, was offen ist, oder in einer anderen Währung"],
 
