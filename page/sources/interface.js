@@ -32,7 +32,9 @@ async function askOnce(path, request) {
     await rest();
     const found = objectOf(body);
     await rest();
-    return understood(status, found, path.split(/[/?]/)[1], Boolean(request)) ?? strange;
+    const read = understood(status, found, path.split(/[/?]/)[1], Boolean(request)) ?? strange;
+    await rest();
+    return read;
   } catch {
     return { kind: "unknown", why: text(stop.signal.aborted ? "no-reply" : "no-connection") };
   } finally {

@@ -38,7 +38,8 @@ function refusal(reply, request, end = "nothing-done", also = null) {
   const hints = reply.told.filter(one => /^ {2}(?! *[0-9]+ \|)/.test(one)).map(one => one.slice(2));
   const isMarked = line && request?.journal !== undefined;
   return panel(end === "maybe-done" ? "wait" : "bad",
-    el("p", {}, el("strong", {}, phrase(line ? "refused-line" : "refused", { line, sentence: said(sentence) }))),
+    el("p", {}, el("strong", {}, phrase(line && view.name === "import" ? "refused-line" : "refused",
+      { line, sentence: said(sentence) }))),
     isMarked ? excerpt(request.journal.replace(/\n$/, "").split("\n"), line) : null,
     hints.length ? el("ul", {}, hints.map(one => el("li", {}, said(one)))) : null, also,
     el("p.small", {}, text(end, { number, name })),

@@ -94,19 +94,19 @@ const printButton = () => button("print", () => print());
 // Many items are built in steps, so that the page stays alive: the first ones, and further ones on demand. The browser
 // lays out a step when it comes into sight. `make` makes the element of a step; it is `height` rem high for each item.
 const STEP = 300;
-function inSteps(items, height, countKey, make) {
+function inSteps(items, height, countKey, make, most = STEP) {
   const place = el("div.steps"), state = el("p.small.soft"), controls = el("div.buttons.no-paper");
   let count = 0;
   const step = () => {
-    const next = items.slice(count, count + STEP), made = el("div.step", {}, make(next, count === 0));
+    const next = items.slice(count, count + most), made = el("div.step", {}, make(next, count === 0));
     made.style.setProperty("contain-intrinsic-height", `auto ${next.length * height}rem`);
     place.append(made);
     count += next.length;
     state.textContent = text(countKey, { n: count, all: items.length });
     const left = items.length - count;
     controls.replaceChildren(...(left ? [
-      el("button", { type: "button", click: step }, text("more", { n: Math.min(STEP, left) })),
-      left > STEP ? button("all", goOn) : ""] : []));
+      el("button", { type: "button", click: step }, text("more", { n: Math.min(most, left) })),
+      left > most ? button("all", goOn) : ""] : []));
   };
   // (a timer, because frames stand still in a tab that nobody looks at)
   const goOn = () => {

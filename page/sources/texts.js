@@ -274,6 +274,7 @@ const TEXTS = {
 
   "from-day": ["From the day", "Vom Tag"],
   "to-day": ["Through the day", "Bis zum Tag"],
+  "turned-days": ["The first day is behind the last one.", "Der erste Tag liegt hinter dem letzten."],
   "of-whom": ["Of", "Von"],
   "this-branch": ["this branch", "diesem Zweig"],
   "statement-title": ["{what}, {from} to {to}", "{what}, {from} bis {to}"],

@@ -95,17 +95,20 @@ function matchLines(lines, book, account, symbol) {
     if (line.held) taken.add(line.held.number);
   }
   if (!lines.length) return;
-  const from = dayNumber(lines[0].day) - NEAR, to = dayNumber(lines.at(-1).day) + NEAR;
-  const isNear = entry => dayNumber(entry.day) >= from && dayNumber(entry.day) <= to;
-  const near = book.filter(entry => !taken.has(entry.number) && isNear(entry))
-    .map(entry => ({ entry, units: moves(entry) })).filter(({ units }) => units);
+  const from = isoDay(dayNumber(lines[0].day) - NEAR), to = isoDay(dayNumber(lines.at(-1).day) + NEAR);
+  const near = new Map();
+  for (const entry of book) {
+    if (entry.day < from || entry.day > to || taken.has(entry.number)) continue;
+    const units = moves(entry);
+    if (units) near.set(units, [...near.get(units) ?? [], entry]);
+  }
   for (const line of lines.filter(({ held }) => !held)) {
-    const away = ({ entry }) => Math.abs(dayNumber(entry.day) - dayNumber(line.day));
-    const fits = near.filter(one => one.units === line.units && !taken.has(one.entry.number)
-      && away(one) <= (one.entry.mark.startsWith("bank-") ? 0 : NEAR));
+    const away = entry => Math.abs(dayNumber(entry.day) - dayNumber(line.day));
+    const fits = (near.get(line.units) ?? []).filter(entry => !taken.has(entry.number)
+      && away(entry) <= (entry.mark.startsWith("bank-") ? 0 : NEAR));
     const best = fits.reduce((most, one) => !most || away(one) < away(most) ? one : most, null);
-    line.like = best?.entry ?? null;
-    if (best) taken.add(best.entry.number);
+    line.like = best;
+    if (best) taken.add(best.number);
     line.isTaken ??= !best;
   }
 }
@@ -144,16 +147,16 @@ function forgetMatches() {
 const wordsOf = ({ payee, purpose }) => payee && purpose ? `${payee} | ${purpose}` : payee || purpose;
 const payeeKey = value => value.split(" | ")[0].toLowerCase().replace(/[^\p{L}]+/gu, " ").trim();
 // The counter-account: where the newest entry with the same payee, and with money in the same direction, went.
-function proposeCounters(lines, book, account) {
+async function proposeCounters(lines, book, account) {
   const known = new Map();
-  for (const entry of book) {
-    if (OWN.test(entry.mark) || entry.mark.startsWith("back-")) continue;
+  await slowly(book, entry => {
+    if (OWN.test(entry.mark) || entry.mark.startsWith("back-")) return;
     const legs = legsOf(entry), own = legs.filter(leg => leg.account === account);
     const others = legs.filter(leg => leg.account !== account);
     if (own.length === 1 && others.length === 1) {
       known.set(`${own[0].units < 0n} ${entry.payee}`, others[0].account);
     }
-  }
+  });
   for (const part of lines.flatMap(partsOf)) {
     part.counter ??= known.get(`${part.units < 0n} ${payeeKey(wordsOf(part))}`) ?? "";
   }
@@ -189,7 +192,9 @@ async function showBank() {
       if (!isLast()) return [];
       matchLines(lines, book, account, symbol);
       matchTransfers(lines, open, symbol);
-      proposeCounters(lines, book, account);
+      await proposeCounters(lines, book, account);
+      await rest();
+      if (!isLast()) return [];
     }
     for (const one of closings) {
       one.held = book.find(({ mark }) => mark === one.mark) ?? null;
@@ -281,7 +286,7 @@ function bankTable(lines, symbol) {
   const table = (some, isFirst) => el("table.rows.bank" + (isFirst ? "" : ".further"), {},
     headRow(["enter-it", "day", "description"], ["amount"], false, ["counter-account"]),
     el("tbody", {}, some.map(line => row(line, lines.indexOf(line)))));
-  const [place, state, controls] = inSteps(lines, 3, "lines-some", table);
+  const [place, state, controls] = inSteps(lines, 3, "lines-some", table, 100);
   return [el("div.wide", {}, place), state, controls];
 }
 // What is chosen for one line is proposed for the others of the same payee.

@@ -66,8 +66,9 @@ function showEntry() {
   for (const [, id] of lineIds()) $(id).dispatchEvent(new Event("input"));
   loadAccounts().catch(() => {});
   fill("entry-known", async () => {
-    const book = await bookOf(view.branch), known = [...new Set(book.toReversed().map(one => one.description))];
-    $("descriptions").replaceChildren(...known.slice(0, 300).map(value => el("option", { value })));
+    const book = await bookOf(view.branch), known = new Set();
+    for (let at = book.length - 1; at >= 0 && known.size < 300; at--) known.add(book[at].description);
+    $("descriptions").replaceChildren(...[...known].map(value => el("option", { value })));
     return [];
   });
 }

@@ -20,8 +20,8 @@ async function registerTable(whole) {
   const isOldFirst = kept("oldest-first", false), hasAccounts = rows.some(row => row[4] !== rows[0][4]);
   const heads = ["day", "entry-number", "description", ...(hasAccounts ? ["account"] : [])];
   // All steps have columns of the same width: for amounts that of the longest one.
-  const widest = at => `${rows.reduce((most, row) => Math.max(most, row[at].length), 8) + 2.2}ch`;
-  const widths = ["11.5ch", "7.5ch", "", ...(hasAccounts ? [""] : []), widest(2), widest(3)];
+  const ends = [2, 3].map(at => `${rows.reduce((most, row) => Math.max(most, row[at].length), 8) + 2.2}ch`);
+  const widths = ["11.5ch", "7.5ch", "", ...(hasAccounts ? [""] : []), ...ends];
   const columns = () => el("colgroup", {}, widths.map(width => {
     const made = el("col");
     made.style.setProperty("width", width);
@@ -39,13 +39,15 @@ async function registerTable(whole) {
     keep("oldest-first", !isOldFirst);
     fill("register-report", async () => registerTable(whole));
   };
+  const line = await chart(rows);
+  await rest();
   const [place, state, controls] = inSteps(isOldFirst ? rows : rows.toReversed(), 2.3, "postings-some", table);
-  place.style.setProperty("--least", `calc(${widest(2)} + ${widest(3)} + ${hasAccounts ? "63ch" : "43ch"})`);
+  place.style.setProperty("--least", `calc(${ends.join(" + ")} + ${hasAccounts ? "63ch" : "43ch"})`);
   const sums = new Map();
   if (from) await slowly(rows, row => add(sums, readAmount(row[2])));
   return [
     from ? el("p", {}, text("moved-in", { from, to: through }), ": ", amounts(sums, zeroSymbol())) : null, hidden,
-    await chart(rows),
+    line,
     el("div.wide", {}, place),
     state, controls,
     buttons(button(isOldFirst ? "newest-first" : "oldest-first", turn), printButton()),

@@ -109,6 +109,7 @@ function showStatement() {
   const { branch, of } = view, from = valueOf("statement-from"), to = valueOf("statement-to");
   const names = of === "all" ? branches.map(one => one.name) : [branch];
   fill("statement-report", async (isLast, progress) => {
+    if (from > to) return [el("p", {}, text("turned-days"))];
     await loadFederation();
     const now = emptyPeriod(), before = emptyPeriod(), list = [];
     for (const name of names) {
