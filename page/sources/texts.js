@@ -115,7 +115,7 @@ const TEXTS = {
 
   "find-entry": ["Find words in the entries", "Wörter in den Buchungen suchen"],
   "amount-empty": ["Amount (may be empty)", "Betrag (kann leer bleiben)"],
-  "to-day-empty": ["Through the day (may be empty)", "Bis zum Tag (kann leer bleiben)"],
+  "to-day-empty": ["Through (may be empty)", "Bis (kann leer bleiben)"],
   "save": ["Save as a file", "Als Datei sichern"],
   "entries-some": ["{n} of {all} entries", "{n} von {all} Buchungen"],
   "no-entries": ["No entry has that.", "Keine Buchung hat das."],
@@ -200,7 +200,7 @@ const TEXTS = {
     + "einmal."],
   "reversal": ["Reversal of entry {number}: {description}", "Storno von Buchung {number}: {description}"],
   "reversed-before": ["This entry was reversed before.", "Diese Buchung wurde schon storniert."],
-  "from-day-empty": ["From the day (may be empty)", "Vom Tag (kann leer bleiben)"],
+  "from-day-empty": ["From (may be empty)", "Ab (kann leer bleiben)"],
   "later": ["{n} posting of a later day is not shown.|{n} postings of later days are not shown.",
     "{n} Posten eines späteren Tages ist nicht gezeigt.|{n} Posten späterer Tage sind nicht gezeigt."],
   "show-later": ["Show all days", "Alle Tage zeigen"],

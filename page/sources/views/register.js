@@ -42,7 +42,7 @@ async function registerTable(whole) {
   const line = await chart(rows);
   await rest();
   const [place, state, controls] = inSteps(isOldFirst ? rows : rows.toReversed(), 2.3, "postings-some", table);
-  place.style.setProperty("--least", `calc(${ends.join(" + ")} + ${hasAccounts ? "63ch" : "43ch"})`);
+  place.style.setProperty("--least", `calc(${ends.join(" + ")} + ${hasAccounts ? "56ch" : "38ch"})`);
   const sums = new Map();
   if (from) await slowly(rows, row => add(sums, readAmount(row[2])));
   return [
