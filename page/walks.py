@@ -1103,6 +1103,16 @@ def statements(holds, page, browser):
         holds(f"so is that of all branches {turn} the closings", {name: rows.get(name) for name in ALL} == ALL, rows)
         for name in ("west", "east", "island"):
             stand.do(what="close", branch=name, day="2031-12-31")
+    page.tab.media("print")
+    page.tab.size(718, 1000)
+    seen = page.run("return ['.signatures', '#statement-form', '#statement-report .buttons', 'details'].map(it =>"
+                    " document.querySelector('#view-statement ' + it)?.checkVisibility() ?? document.querySelector(it)"
+                    ".checkVisibility()).concat(document.documentElement.scrollWidth)")
+    holds("on A4 it has lines to sign, and nothing is cut", seen == [True, False, False, False, 718], seen)
+    page.tab.media()
+    page.tab.size(1180, 900)
+    page.open("statement", branch="west", **{"from": "2031-12-31", "to": "2031-01-01"})
+    holds("turned days are told", "The first day is behind the last" in page.text("#statement-report"))
 
 
 # A year of three branches, beside the year before, worked out by hand
