@@ -62,9 +62,16 @@ def name_of(function):
 
 def begin_of(function, lines):
     """Returns the line at which the attributes of a function begin."""
-    first = function.first
-    while first and not lines[first - 1].split("//")[0].rstrip().endswith(("}", ";", "{")):
-        first -= 1
+    first = at = function.first
+    while at and lines[at - 1].strip():
+        at -= 1
+        if lines[at].rstrip().endswith("]"):
+            at = next((n for n in range(at, -1, -1) if lines[n].lstrip().startswith(("#[", "#!["))), -1)
+            if at < 0 or lines[at].lstrip().startswith("#!["):
+                break
+            first = at
+        elif not lines[at].lstrip().startswith("//"):
+            break
     return first
 
 
@@ -186,6 +193,11 @@ def blocks_of(lines, margin="", head=()):
     return found
 
 
+def made_by(lines):
+    """Returns the names of the constructors in a definition."""
+    return [it[1] for it in map(MAKES.match, lines[1:]) if it] if "data" in words_of(lines[:1], ANTT)[:3] else []
+
+
 def owners(words):
     """Returns the names of the trait, if it is of one, and of the type in the head of an impl."""
     plain, depth = [], 0
@@ -238,12 +250,12 @@ class Sources:
             self.named[text.crate][name].append(text)
 
     def bring_in(self, crate, imports):
-        """Returns by their names the paths that imports bring in; a name that is handed on under another is a text."""
+        """Returns by their names the paths that imports bring in; what is handed on is a text."""
         paths = collections.defaultdict(set)
         for is_public, words in imports:
             for path, name in imported(words):
                 paths[name].add(path)
-                if is_public and name != re.split(r"[.:]", path)[-1]:
+                if is_public:
                     self.add(Text(f"{crate}: {path} as {name}", crate, [name], ({name: {path}}, ())), name)
         return paths
 
@@ -253,15 +265,13 @@ class Sources:
         imports = [words_of(lines, ANTT) for name, lines in blocks if name == "use"]
         paths = self.bring_in(crate, [(it[0] == "pub", it[1 + (it[0] == "pub") :]) for it in imports])
         blocks = [it for it in blocks if it[0] not in ("use", "mod")]
-        scope = paths, {name for name, _ in blocks}
+        names = [[name, *made_by(lines)] for name, lines in blocks]
+        scope = paths, {it for some in names for it in some}
         if title:
             return Text(title, crate, words_of([line for _, lines in blocks for line in lines], ANTT), scope)
         context = [word for name, lines in blocks if name in OF_FILE for word in words_of(lines, ANTT)]
-        for name, lines in blocks:
-            words, made = words_of(lines, ANTT), []
-            if "data" in words[:3]:
-                made = [it[1] for it in map(MAKES.match, lines[1:]) if it]
-            self.add(Text(f"{crate}: {name}", crate, words + context, scope), name, *made)
+        for some, (name, lines) in zip(names, blocks):
+            self.add(Text(f"{crate}: {name}", crate, words_of(lines, ANTT) + context, scope), *some)
         return None
 
     def read_source(self, crate, file, functions, proofs):

@@ -23,6 +23,13 @@ pub record IsBelow (n : ℕ) : Type 0 where
 
 abbrev pub most : ℕ
 most = 9
+
+pub data Size : Type 0 where
+  small : Size
+  large : ℕ → Size
+
+abbrev pub weight : ℕ → ℕ
+weight n = elim (large n) [ | small ↦ 0 | large m ↦ m ]
 """,
     "bottom/proofs/SumLemmas.antt": """-- What sums are.
 use Rattle.bottom.specs.Sum.{total, doubled}
@@ -102,7 +109,7 @@ returns c = again c.args.n
 """,
     "middle/src/lib.rt": """#![tactic(auto)]
 
-ghost use Rattle.bottom.specs.Sum.{total};
+ghost use Rattle.bottom.specs.Sum.{total, weight};
 
 use bottom::{sum_of as whole_sum, Price, Purse};
 
@@ -114,9 +121,15 @@ pub fn purse_sum(purse: &Purse, list: &[u32]) -> u32
     whole_sum(list)
 }
 
+const PLACE: &str = "http://a";
+// The limit.
+#[tactic(
+    auto,
+)]
 pub fn limit() -> u32
-    ensures { result ≡ 7 }
+    ensures { result ≡ weight 7 }
 {
+    let place = PLACE;
     MOST
 }
 
@@ -191,6 +204,10 @@ CHANGES = (
     ("bottom/src/purse.rt", "coins: Vec<u32>", "coins: Vec<u16>", OF_PURSE),
     ("bottom/src/purse.rt", "λ p. p.coins.items", "λ p. []", OF_PURSE),
     ("middle/src/lib.rt", "u32 = 7", "u32 = 8", "middle/limit"),
+    ("middle/src/lib.rt", "http://a", "http://b", "middle/limit"),
+    ("middle/src/lib.rt", "    auto,", "    auto, using(x),", "middle/limit"),
+    ("bottom/specs/Sum.antt", "large : ℕ", "large : ℤ", "middle/limit"),
+    ("bottom/src/lib.rt", "use sum::{sum_of, twice}", "use sum::twice;\npub use purse::sum_of", "middle/purse"),
     ("middle/src/lib.rt", "sum_of as whole_sum", "added as whole_sum", "middle/purse"),
     ("bottom/src/lib.rt", "#![tactic(auto)]", "#![tactic(auto, none)]", OF_BOTTOM),
     # a further text of a name that is called
