@@ -97,7 +97,8 @@ def leading(words, scope):
     if "*" in imports:
         return {*filter(NAME.fullmatch, words)}
     found = {it for it in {*words} if (it in imports or it in defined) and NAME.fullmatch(it)}
-    for before, dot, word, *behind in zip(["", "", *words], ["", *words], words, [*words[1:], ""], [*words[2:], "", ""]):
+    around = zip(["", "", *words], ["", *words], words, [*words[1:], ""], [*words[2:], "", ""])
+    for before, dot, word, *behind in around:
         is_called = dot == "." and (behind[0] == "(" or behind == [":", ":"])
         is_in_path = dot == before == ":" or dot == "." and before in imports
         if (is_called or is_in_path or behind[0] == "!") and NAME.fullmatch(word):
