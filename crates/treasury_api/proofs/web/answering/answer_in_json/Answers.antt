@@ -1,4 +1,5 @@
-use Rattle.std.proofs.Common.{◌≡◌, ◌≤◌, ◌+◌, ℕ, List, Option, Result, inl, refl, subst, length, arith, false, ap, sym, ◌∙◌}
+use Rattle.std.proofs.Common.{◌≡◌, ◌≤◌, ◌+◌, ℕ, List, Option, Result, inl, refl, subst, length, arith, false, ap, sym}
+use Rattle.std.proofs.Common.{◌∙◌}
 use Rattle.http_request.specs.declared.call.Form.TheVariants as form
 use Rattle.book_core.specs.declared.refusal.Refusal.{Refusal}
 use Rattle.treasury_core.specs.declared.command.Answer.{Answer}
