@@ -8,8 +8,8 @@ const SOURCES = ["names.js", "amounts.js", "days.js", "interface.js", "entries.j
   "bank-files.js", "pending.js", "commands.js", "tree.js", "chart.js"];
 const NAMES = ["seenParts", "alike", "amountMeant", "priceMeant", "entryAt", "spelledOut", "learnStyles",
   "readAmount", "printAmount", "amountTyped", "dayNumber", "dayBefore", "yearBefore", "understood", "entryOf",
-  "legsOf", "kindOf", "plain", "entryText", "keyOf", "isUndecided", "treeOf", "ticks", "decoded", "unpacked", "fileKind",
-  "dayRead", "unitsRead", "csvSetting", "readCsv", "readXml", "readCamt", "readMt940", "sameAccount"];
+  "legsOf", "kindOf", "plain", "entryText", "keyOf", "isUndecided", "treeOf", "ticks", "decoded", "unpacked",
+  "fileKind", "dayRead", "unitsRead", "csvSetting", "readCsv", "readXml", "readCamt", "readMt940", "sameAccount"];
 const written = SOURCES.map(name => fs.readFileSync(new URL("sources/" + name, import.meta.url), "utf-8")).join("");
 const page = new Function(`"use strict";\n${written}\nreturn { ${NAMES.join()} };`)();
 
@@ -190,6 +190,8 @@ for (const [reply, again, first] of OPEN) {
 }
 gives("a command's key is that of its values in any order", () => page.keyOf({ do: "lock", branch: "n", day: "d" }),
   page.keyOf({ day: "d", do: "lock", branch: "n" }));
+gives("a number of entries makes no other command", () => page.keyOf({ do: "lock", branch: "n", "if-entries": "3" }),
+  page.keyOf({ do: "lock", branch: "n" }));
 gives("another journal has another key", () => page.keyOf({ do: "import", journal: "ab" })
   === page.keyOf({ do: "import", journal: "ac" }), false);
 

@@ -569,10 +569,11 @@ def troubles(holds, page, browser):
     stand.mode = "pass"
     holds("a text that is too long to keep: the same file again", "Import the same file again" in page.text("#pending"),
           page.text("#pending"))
-    page.press("I have done that", "#pending")
     page.go("import", branch="south")
     page.put("import-text", big)
     holds("and it is there already", "Nothing is new, already there: 1" in page.check("import"), page.text())
+    page.press("I have done that", "#pending")
+    holds("then nothing is open", page.text("#pending") == "", page.text("#pending"))
     page.run("localStorage.removeItem('other')")
 
 

@@ -12,7 +12,8 @@ function kept(name, otherwise) {
 }
 // Each command is kept under a name of its own, so that tabs do not overwrite one another's.
 const PENDING = "pending ", pendings = new Map();
-const keyOf = request => JSON.stringify(Object.entries(request).sort().map(([name, value]) =>
+// (the same command bound to another number of entries is the same command)
+const keyOf = ({ "if-entries": _, ...request }) => JSON.stringify(Object.entries(request).sort().map(([name, value]) =>
   [name, name === "journal" ? `${value.length} ${sumOf(value)}` : value]));
 function sumOf(journal) {
   let sum = 0x811c9dc5;
