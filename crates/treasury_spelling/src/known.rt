@@ -448,9 +448,12 @@ fn sent<'a>(alloc: Global) -> Result<Command<'a>, AllocError>
     ensures { IfOk result (IsPlaced (codes "dispatch")
         (id ∷ option (codes "from") ∷ option (codes "to") ∷ day ∷ option (codes "amount") ∷ [])) }
 {
-    sending(alloc)?
-        .arg(day_option(alloc))?
-        .arg(option(alloc, "amount", "AMOUNT", "The amount that is sent"))
+    sending(alloc)?.arg(day_option(alloc))?.arg(option(
+        alloc,
+        "amount",
+        "AMOUNT",
+        "The amount that is sent",
+    ))
 }
 
 /// The word `dispatch`.

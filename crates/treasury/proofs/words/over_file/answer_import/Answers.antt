@@ -13,5 +13,5 @@ returns-in-Ok g c =
       sym c.in-Some.ensures,
       subst (λ (terms : Terms).
           SaysToJournal _ (image_at g.S.Start) c.in-Some.branch.now terms None (spoken c.answer_journal.result.said)
-          c.answer_journal.result.left) c.terms_of.ensures c.answer_journal.ensures,
+          c.answer_journal.result.left) c.terms_of-terms.ensures c.answer_journal.ensures,
     )
