@@ -11,3 +11,4 @@ mod value;
 pub use balancing::legs;
 pub use conversion::conversion_accounts;
 pub use law::{entry_growth_law, entry_law, unmarked_law, written_law};
+pub use value::{cost_fault_of, sum_of};

@@ -45,7 +45,7 @@ fn value_of(posting: &Posting, unit: Unit, styles: &Styles) -> i64
 }
 
 /// The sum of the values of postings in a commodity, in its smallest units.
-pub(crate) fn sum_of(postings: &[Posting], unit: Unit, styles: &Styles) -> i128
+pub fn sum_of(postings: &[Posting], unit: Unit, styles: &Styles) -> i128
     requires { list_all (is_posting styles.now) postings.now ≡ true }
     ensures { result ≡ sum_of styles.now unit postings.now }
 {
@@ -58,7 +58,7 @@ pub(crate) fn sum_of(postings: &[Posting], unit: Unit, styles: &Styles) -> i128
 }
 
 /// The fault of a posting's cost, if it has one.
-fn cost_fault_of(posting: &Posting, styles: &Styles) -> Option<Cause>
+pub fn cost_fault_of(posting: &Posting, styles: &Styles) -> Option<Cause>
     requires { is_posting styles.now posting.now ≡ true }
     ensures { result ≡ cost_fault_of styles.now posting.now.amount posting.now.price }
 {

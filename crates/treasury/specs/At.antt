@@ -61,7 +61,6 @@ SaysToBytesAt branch terms journal said =
     ⊎ ((sent : List ℕ) × (is_utf8 journal ≡ true → sent ≡ journal) × SaysFrom (given terms (Import branch sent)) said)
 
 -- and of `import` by its values: its journal is read first, as over a file
-
 abbrev pub SaysToImportAt : List Row → Spoken → Type 0
 SaysToImportAt values said =
     (((first_of (codes "branch") values ≡ None) ⊎ ((first_of (codes "journal") values ≡ None)

@@ -27,6 +27,7 @@ IsAnnouncedBy contents w0 w1 (Unaccepted port) = Appends (contents w0) (contents
 IsAnnouncedBy contents w0 w1 Changed = Appends (contents w0) (contents w1) listening
 IsAnnouncedBy contents w0 w1 Finished = Appends (contents w0) (contents w1) listening
 
+-- serving ended because `listening` could not be written
 abbrev pub ends_unwritten : Option Ending → Bool
 ends_unwritten (Some Unwritten) = true
 ends_unwritten _ = false

@@ -14,6 +14,7 @@ pub record Spoken : Type 0 where
 
 -- ---- what is said by a cause alone
 
+-- the answer line of this cause is said, as a refusal
 abbrev pub IsRefusedBy : Cause → Spoken → Type 0
 IsRefusedBy cause said = (said.text ≡ answer_text [] (Err (Plain cause))) × (said.refused ≡ true)
 

@@ -15,8 +15,8 @@ use Rattle.json_text.specs.JsonText as held
 use Rattle.treasury_state.specs.Federation.{Federation}
 use Rattle.treasury_api.specs.declared.report.Report.{Report as AnyReport}
 use Rattle.treasury_api.specs.Report.{report_rows, report_json}
-use Rattle.treasury_told.specs.Sentence.{sentence_of}
-use Rattle.treasury_api.specs.WebServing.{done_json, refusal_json, refused_json, IsJsonRefused}
+use Rattle.treasury_messages.specs.Sentence.{sentence_of}
+use Rattle.treasury_api.specs.WebServing.{done_json, refusal_json, refused_json, IsJsonRefused, IsJsonTold}
 
 -- ---- the parts of a refusal
 
@@ -365,6 +365,26 @@ refused_none (Ok x) line cause entries old mid new same empty said = (
   said ∙ ap (λ (t : List ℕ). t ++ refused_json line cause [] entries) (same ∙ empty),
 )
 refused_none (Err e) line cause entries old mid new same empty said = tt
+
+-- what is told in the object that is appended to nothing
+pub told_in : (line : List ℕ) (cause : Cause) (told kept : List ℕ) (entries : Option ℕ) (old new : List ℕ) → old ≡ []
+    → (kept ≡ told) ⊎ (kept ≡ []) → new ≡ old ++ refused_json line cause kept entries
+    → IsJsonTold line cause told entries new
+told_in line cause told kept entries old new none (inl same) is =
+    inl (is ∙ ap (λ (o : List ℕ). o ++ refused_json line cause kept entries) none
+    ∙ ap (λ (t : List ℕ). refused_json line cause t entries) same)
+told_in line cause told kept entries old new none (inr same) is =
+    inr (is ∙ ap (λ (o : List ℕ). o ++ refused_json line cause kept entries) none
+    ∙ ap (λ (t : List ℕ). refused_json line cause t entries) same)
+
+-- the same where nothing is told, since memory was refused before
+pub told_none : {T E : Type 0} (result : Result T E) (line : List ℕ) (cause : Cause) (told : List ℕ)
+    (entries : Option ℕ) (old mid new : List ℕ) → mid ≡ old → old ≡ []
+    → OnOk result (new ≡ mid ++ refused_json line cause [] entries)
+    → OnOk result (IsJsonTold line cause told entries new)
+told_none (Ok v) line cause told entries old mid new same none is =
+    told_in line cause told [] entries mid new (same ∙ none) (inr refl) is
+told_none (Err e) line cause told entries old mid new same none is = tt
 
 -- what is told to be refused is not done
 pub not_both : {T E : Type 0} (result : Result T E) (error : E) → result ≡ Err error → IsOk result → ⊥

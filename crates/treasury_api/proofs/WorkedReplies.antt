@@ -13,7 +13,7 @@ use Rattle.treasury_api.specs.Web.{asked_by, only_of}
 use Rattle.treasury_api.specs.WebReply.{status_of, form_of_reply, whole_reply}
 use Rattle.treasury_api.specs.JsonReply.{reply_json}
 use Rattle.json_text.specs.JsonText.{escaped, lines_of}
-use Rattle.treasury_told.specs.Sentence.{sentence_of}
+use Rattle.treasury_messages.specs.Sentence.{sentence_of}
 use Rattle.http_request.specs.declared.call.Form.TheVariants as form
 
 -- the table of statuses, at the ends of its rows

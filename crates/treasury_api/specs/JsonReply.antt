@@ -7,7 +7,7 @@ use Rattle.money_core.specs.declared.cause.Cause.{Cause}
 use Rattle.money_core.specs.Cause.{cause_number, cause_name}
 use Rattle.book_core.specs.declared.refusal.Refusal.{Refusal}
 use Rattle.treasury_core.specs.declared.command.Answer.{Answer}
-use Rattle.treasury_told.specs.Sentence.{sentence_of}
+use Rattle.treasury_messages.specs.Sentence.{sentence_of}
 use Rattle.json_text.specs.JsonText.{Held, string, strings, object_text, lines_of}
 use Rattle.treasury_api.specs.Answer.{done_text, refusal_text}
 use Rattle.treasury_api.specs.WebReply.{cause_of}

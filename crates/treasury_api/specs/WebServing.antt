@@ -4,7 +4,9 @@ use Rattle.std.specs.Prelude.{Err, IsTrue, codes, decimal, if◌then◌else◌, 
 use Rattle.std.specs.Str.{is_utf8}
 use Rattle.json_text.specs.JsonText.{string, strings, object_text, lines_of}
 use Rattle.money_core.specs.Cause.{cause_number, cause_name}
-use Rattle.treasury_told.specs.Sentence.{sentence_of}
+use Rattle.treasury_messages.specs.Sentence.{sentence_of, sentence_said}
+use Rattle.treasury_messages.specs.Printed.{IsFirstTextOf}
+use Rattle.treasury_messages.specs.Unasked.{IsToldUnasked}
 use Rattle.money_core.specs.declared.style.Style.{Style}
 use Rattle.money_core.specs.declared.cause.Cause.{Cause}
 use Rattle.money_core.specs.declared.cause.Cause.TheVariants.{OutOfMemory, Request as NoRequest}
@@ -120,9 +122,25 @@ refused_json line cause told entries =
 abbrev pub IsJsonDone : List ℕ → Option ℕ → List ℕ → Type 0
 IsJsonDone line entries body = (noted : List ℕ) × (is_utf8 noted ≡ true) × (body ≡ done_json line noted entries)
 
+-- the object of a refusal, with something in UTF-8 told
 abbrev pub IsJsonRefused : List ℕ → Cause → Option ℕ → List ℕ → Type 0
 IsJsonRefused line cause entries body =
     (told : List ℕ) × (is_utf8 told ≡ true) × (body ≡ refused_json line cause told entries)
+
+-- that of a refusal, in which that is told, or nothing
+abbrev pub IsJsonTold : List ℕ → Cause → List ℕ → Option ℕ → List ℕ → Type 0
+IsJsonTold line cause told entries body =
+    (body ≡ refused_json line cause told entries) ⊎ (body ≡ refused_json line cause [] entries)
+
+-- what is told of a call that is no request: of a body, which fault it has first; of a call without one, the sentence
+abbrev pub IsToldOfBody : Option (List ℕ) → List ℕ → Type 0
+IsToldOfBody None told = IsFirstTextOf (sentence_said NoRequest ∷ []) told
+IsToldOfBody (Some bytes) told = IsToldUnasked bytes told
+
+-- the object of 44, in which that is told, or nothing
+abbrev pub IsUnaskedJson : Option (List ℕ) → List ℕ → Type 0
+IsUnaskedJson bytes body =
+    (told : List ℕ) × IsToldOfBody bytes told × IsJsonTold (codes "refused 44 Request") NoRequest told None body
 
 -- the object of a refusal of that text, or that of 40 in place of one whose text is longer than a plain one; and whose
 -- it is

@@ -1,10 +1,10 @@
 //! What transcripts mean, in the words of the machine of commands.
 
-ghost use Rattle.std.specs.Prelude.{◌≡◌, List, ℕ, length, take, Result, Ok};
+ghost use Rattle.std.specs.Prelude.{◌≡◌, List, ℕ, Result, Ok};
 ghost use Rattle.book_core.specs.declared.refusal.Refusal.{Refusal as Refused};
 ghost use Rattle.journal_format.specs.declared.txn.Located.{Located};
 ghost use Rattle.journal_format.specs.Pieces.{Reads};
-ghost use Rattle.treasury_state.specs.Federation.{Federation, records_of, lock_of};
+ghost use Rattle.treasury_state.specs.Federation.{Federation};
 ghost use Rattle.treasury_core.specs.declared.command.Answer.{Answer};
 ghost use Rattle.treasury_core.specs.declared.command.Answer.TheVariants.{Entered};
 ghost use Rattle.treasury_core.specs.declared.command.Command.{Command};
@@ -12,7 +12,7 @@ ghost use Rattle.treasury_core.specs.declared.command.Command.TheVariants.{Enter
 ghost use Rattle.treasury_core.specs.Step.{reply, step};
 ghost use Rattle.treasury_core.specs.Run.{IsRun as IsCommandRun, state_after};
 ghost use Rattle.treasury_requests.specs.declared.request.Request.TheVariants.{Import};
-ghost use Rattle.treasury_told.specs.Added.{IsNoneRefused, IsEntered};
+ghost use Rattle.treasury_told.specs.Uneven.{IsReadImport};
 ghost use Rattle.treasury_api.specs.declared.report.Report.{Report};
 ghost use Rattle.treasury_api.specs.Transcript.{IsTranscript};
 ghost use Rattle.treasury_api.specs.Step.{Standing, after_asked, Answers};
@@ -89,15 +89,10 @@ pub fn lists_law<L: Ledger>(state: &State<L>)
     samples_law(styles);
 }
 
-/// A law of an import that is answered with counts: its branch, which held these records before, has taken its journal
-/// and refused nothing of it. So `push_notes` tells all that there is to tell of it. Costs nothing.
+/// A law of an import that is answered with counts: the state after it reads its journal as the same transactions. So
+/// `push_notes` tells all that there is to tell of it. Costs nothing.
 pub fn taken_law()
-    ensures entered { (f : Federation) (name journal : List ℕ) (file : List Located) (new repeated : ℕ)
+    ensures { (f : Federation) (name journal : List ℕ) (file : List Located) (new repeated : ℕ)
         → Reads f.styles journal file → reply f (Enter name file) ≡ Ok (Entered new repeated)
-        → IsEntered (step f (Enter name file)).next (Import name journal) name journal (length (records_of f name))
-        file }
-    ensures none_refused { (f : Federation) (name : List ℕ) (file : List Located) (new repeated : ℕ)
-        → reply f (Enter name file) ≡ Ok (Entered new repeated)
-        → IsNoneRefused (step f (Enter name file)).next.styles (lock_of f name)
-        (take (length (records_of f name)) (records_of (step f (Enter name file)).next name)) file }
+        → IsReadImport (step f (Enter name file)).next.styles (Import name journal) name journal file }
 {}

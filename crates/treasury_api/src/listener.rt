@@ -1,4 +1,7 @@
 //! What hears of a run, beside its answers.
+//!
+//! No clause speaks of the listener, so one proof shows that what a run answers and keeps does not depend on who hears
+//! of it. That what is explained is true, and that the number is that of the line, is shown by sessions.
 
 ghost use Rattle.treasury_requests.specs.Request.{HasDayNumbers};
 

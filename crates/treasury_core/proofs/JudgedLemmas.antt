@@ -1,7 +1,9 @@
 -- what becomes of a transaction, by the record that holds its mark
 use Rattle.std.proofs.Common.{◌≡◌, Bool, true, false, ◌||◌, ◌&&◌, cond, List, [], ◌∷◌, ◌++◌, refl, ap, ◌∙◌, sym, subst}
-use Rattle.std.proofs.Common.{append_assoc, Option, Some, None, Ok, Err, ◌⊎◌, inl, inr}
+use Rattle.std.proofs.Common.{append_assoc, append-nil, Option, Some, None, Ok, Err, ◌⊎◌, inl, inr, ℕ, ◌+◌, length}
+use Rattle.std.proofs.Common.{length-append, take}
 use Rattle.std.proofs.Math.Bool.{or-false}
+use Rattle.std.proofs.Math.Seq.{take-append_seam, take-append-add}
 use Rattle.std.specs.Prelude.{if◌then◌else◌, Result}
 use Rattle.std.specs.List.{AllByRecursion}
 use Rattle.std.specs.Str.{bytes_eq}
@@ -18,7 +20,7 @@ use Rattle.treasury_state.specs.Mark.{held, HaveOwnMarks, is_repeat}
 use Rattle.treasury_state.proofs.HeldLemmas.{none_tail, own_push}
 use Rattle.treasury_state.proofs.LookupLemmas.{same_some}
 use Rattle.treasury_state.proofs.HolderLemmas.{is_held_if_None, is_held_if_Some}
-use Rattle.treasury_core.specs.Step.{barred, refused_in, new_in}
+use Rattle.treasury_core.specs.Step.{barred, refused_in, new_in, StopsAt}
 use Rattle.treasury_core.specs.Judged.{new_unless, judged}
 
 fresh_at : (t s u : Bool) → t ≡ false → u ≡ false → ((t && s) || u) ≡ false
@@ -135,16 +137,95 @@ pub judged_stopped : (styles : List Style) (lock : Option Day) (rs rest : List R
 judged_stopped styles lock rs rest r refusal own e =
     stopped_by styles lock rs rest r refusal (held rs r.mark) own refl e
 
--- the next one is new: what is kept of the rest
-pub next_refused : (styles : List Style) (lock : Option Day) (base new more rest items : List Record) (r : Record)
-    (all : Option Refusal) → more ≡ new ++ r ∷ [] → items ≡ r ∷ rest
-    → IsTaken styles lock (base ++ new) r rest → refused_in styles lock (base ++ new) items ≡ all
-    → refused_in styles lock (base ++ more) rest ≡ all
-next_refused styles lock base new more rest items r all pushed split t h =
-    ap (λ (xs : List Record). refused_in styles lock xs rest)
-    (ap (λ (xs : List Record). base ++ xs) pushed ∙ sym (append_assoc base new (r ∷ [])))
-    ∙ sym t.refused ∙ ap (refused_in styles lock (base ++ new)) (sym split) ∙ h
+-- so many of the rows were taken after old records, with these new ones, and the rest is left
+pub record IsReached (styles : List Style) (lock : Option Day) (base rows new rest : List Record)
+    (place : ℕ) : Type 0 where
+  pub before : List Record
+  pub split : rows ≡ before ++ rest
+  pub long : length before ≡ place
+  pub refused : (more : List Record)
+      → refused_in styles lock base (before ++ more) ≡ refused_in styles lock (base ++ new) more
 
+pub reached_none : (styles : List Style) (lock : Option Day) (base rows : List Record)
+    → IsReached styles lock base rows [] rows 0
+reached_none styles lock base rows = record {
+  before = [];
+  split = refl;
+  long = refl;
+  refused = λ more. ap (λ (xs : List Record). refused_in styles lock xs more) (sym (append-nil base));
+}
+
+-- one more
+reached_with : (styles : List Style) (lock : Option Day) (base rows new more rest items : List Record) (r : Record)
+    (place : ℕ) → items ≡ r ∷ rest → IsReached styles lock base rows new items place
+    → ((ys : List Record)
+    → refused_in styles lock (base ++ new) (r ∷ ys) ≡ refused_in styles lock (base ++ more) ys)
+    → IsReached styles lock base rows more rest (place + 1)
+reached_with styles lock base rows new more rest items r place split reached next = record {
+  before = reached.before ++ r ∷ [];
+  split = reached.split ∙ ap (λ (xs : List Record). reached.before ++ xs) split
+      ∙ sym (append_assoc reached.before (r ∷ []) rest);
+  long = length-append reached.before (r ∷ []) ∙ ap (λ (n : ℕ). n + 1) reached.long;
+  refused = λ ys. ap (refused_in styles lock base) (append_assoc reached.before (r ∷ []) ys)
+      ∙ reached.refused (r ∷ ys) ∙ next ys;
+}
+
+-- a new one
+pub reached_new : (styles : List Style) (lock : Option Day) (base rows new more rest items : List Record) (r : Record)
+    (place : ℕ) → more ≡ new ++ r ∷ [] → items ≡ r ∷ rest → judged styles lock r (held (base ++ new) r.mark) ≡ Ok true
+    → IsReached styles lock base rows new items place → IsReached styles lock base rows more rest (place + 1)
+reached_new styles lock base rows new more rest items r place pushed split is reached =
+    reached_with styles lock base rows new more rest items r place split reached
+    (λ ys. (judged_taken styles lock (base ++ new) ys r is).refused
+    ∙ ap (λ (xs : List Record). refused_in styles lock xs ys)
+    (append_assoc base new (r ∷ []) ∙ ap (λ (xs : List Record). base ++ xs) (sym pushed)))
+
+-- a repeat
+pub reached_passed : (styles : List Style) (lock : Option Day) (base rows new rest items : List Record) (r : Record)
+    (place : ℕ) → HaveOwnMarks (base ++ new) → items ≡ r ∷ rest
+    → judged styles lock r (held (base ++ new) r.mark) ≡ Ok false
+    → IsReached styles lock base rows new items place → IsReached styles lock base rows new rest (place + 1)
+reached_passed styles lock base rows new rest items r place own split is reached =
+    reached_with styles lock base rows new new rest items r place split reached
+    (λ ys. (judged_passed styles lock (base ++ new) ys r own is).refused)
+
+-- all of them are refused as what is left is
+pub reached_rest : (styles : List Style) (lock : Option Day) (base rows new items : List Record) (place : ℕ)
+    → IsReached styles lock base rows new items place
+    → refused_in styles lock (base ++ new) items ≡ refused_in styles lock base rows
+reached_rest styles lock base rows new items place reached =
+    sym (ap (refused_in styles lock base) reached.split ∙ reached.refused items)
+
+-- the next one is refused
+stopped_here : (styles : List Style) (lock : Option Day) (base rows new rest items : List Record) (r : Record)
+    (place : ℕ) (refusal : Refusal) → HaveOwnMarks (base ++ new) → items ≡ r ∷ rest
+    → judged styles lock r (held (base ++ new) r.mark) ≡ Err refusal
+    → IsReached styles lock base rows new items place → StopsAt styles lock base rows place refusal
+stopped_here styles lock base rows new rest items r place refusal own split is reached =
+    let all : rows ≡ reached.before ++ r ∷ rest =
+    reached.split ∙ ap (λ (xs : List Record). reached.before ++ xs) split in
+    let front : take place rows ≡ reached.before =
+    ap (λ (n : ℕ). take n rows) (sym reached.long) ∙ ap (take (length reached.before)) all
+    ∙ take-append_seam reached.before (r ∷ rest) in
+    let further : take (place + 1) rows ≡ reached.before ++ r ∷ [] =
+    ap (λ (n : ℕ). take (n + 1) rows) (sym reached.long) ∙ ap (take (length reached.before + 1)) all
+    ∙ take-append-add reached.before (r ∷ rest) 1 in record {
+      before = ap (refused_in styles lock base) (front ∙ sym (append-nil reached.before)) ∙ reached.refused [];
+      here = ap (refused_in styles lock base) further ∙ reached.refused (r ∷ [])
+          ∙ judged_stopped styles lock (base ++ new) [] r refusal own is;
+    }
+
+pub next_stops : (styles : List Style) (base rows new : List Record) (r : Record) (rest items : List Record)
+    (lock : Option Day) (place : ℕ) (refusal : Refusal) {o : Option Record} → o ≡ held (base ++ new) r.mark
+    → items ≡ r ∷ rest → HaveOwnMarks (base ++ new) → IsReached styles lock base rows new items place
+    → (refusal ≡ Plain OutOfMemory) ⊎ (judged styles lock r o ≡ Err refusal)
+    → (refusal ≡ Plain OutOfMemory) ⊎ StopsAt styles lock base rows place refusal
+next_stops styles base rows new r rest items lock place refusal found split own reached (inl e) = inl e
+next_stops styles base rows new r rest items lock place refusal found split own reached (inr e) =
+    inr (stopped_here styles lock base rows new rest items r place refusal own split
+    (ap (judged styles lock r) (sym found) ∙ e) reached)
+
+-- the next one is new: what is kept of the rest
 pub next_new : (styles : List Style) (lock : Option Day) (base new more rest items : List Record) (r : Record)
     (all : List Record) → more ≡ new ++ r ∷ [] → items ≡ r ∷ rest
     → IsTaken styles lock (base ++ new) r rest → new ++ new_in (base ++ new) items ≡ all

@@ -64,6 +64,7 @@ abbrev pub accounts_comment : Option (List (List ℕ)) → List (List ℕ)
 accounts_comment None = []
 accounts_comment (Some names) = (codes "accounts:" ++ list_text names) ∷ []
 
+-- the comment that names the target, if one is given
 abbrev pub into_comment : Option (List ℕ) → List (List ℕ)
 into_comment None = []
 into_comment (Some account) = (codes "into:" ++ account) ∷ []

@@ -2,7 +2,7 @@
 -- of the refusals.
 use Rattle.std.specs.Prelude.{◌≡◌, ◌⊎◌, ℕ, ℤ, ◌+◌, ◌-◌, nat_eq, nat_le, Bool, true, false, ◌&&◌, ◌||◌, not}
 use Rattle.std.specs.Prelude.{if◌then◌else◌, List, [], ◌∷◌, ◌++◌, map, length, find, pos, int_le, int_lt, Option, Some}
-use Rattle.std.specs.Prelude.{None, is_some, Result, Ok, Err}
+use Rattle.std.specs.Prelude.{None, is_some, take, Result, Ok, Err}
 use Rattle.std.specs.Ordering.{int_eq}
 use Rattle.std.specs.Cmp.Lexicographic.{pointwise}
 use Rattle.std.specs.List.{list_any}
@@ -56,6 +56,7 @@ unless answer (Some refusal) = Err refusal
 
 -- ---- Branch, Commodity
 
+-- the reply to a new branch, by its name
 abbrev pub branch_reply : Federation → List ℕ → Result Answer Refusal
 branch_reply f name =
     if not (is_branch_name name) then Err (Plain BranchName)
@@ -63,6 +64,7 @@ branch_reply f name =
     else if nat_le most_branches (length f.branches) then Err (Plain Full)
     else Ok Done
 
+-- the reply to a declared commodity, by what the declaration answers
 abbrev pub commodity_reply : Result Declared Cause → Result Answer Refusal
 commodity_reply (Ok (New unit)) = Ok Done
 commodity_reply (Ok (Same unit)) = Ok Repeated
@@ -75,10 +77,12 @@ abbrev pub is_lock : Option Day → Day → Bool
 is_lock None day = false
 is_lock (Some lock) day = int_eq day.0 lock.0
 
+-- the day is before the lock day
 abbrev pub goes_back : Option Day → Day → Bool
 goes_back None day = false
 goes_back (Some lock) day = int_lt day.0 lock.0
 
+-- the reply to a lock
 abbrev pub lock_reply : Federation → List ℕ → Day → Result Answer Refusal
 lock_reply f name day =
     if not (has_branch f name) then Err (Plain UnknownBranch)
@@ -117,6 +121,7 @@ abbrev pub records_from : List Style → List Txn → List Located → List Reco
 records_from styles before [] = []
 records_from styles before (x ∷ xs) = recorded_in styles before x.txn ++ records_from styles (before ++ x.txn ∷ []) xs
 
+-- the records of a whole file
 abbrev pub records_in_file : List Style → List Located → List Record
 records_in_file styles file = records_from styles [] file
 
@@ -147,6 +152,12 @@ refused_in styles lock held (r ∷ rs) =
     if is_repeat styles held r then refused_in styles lock held rs
     else option_or (refusal_of lock held r) (refused_in styles lock (held ++ r ∷ []) rs)
 
+-- those before a place are taken, and the one at that place is refused so
+pub record StopsAt (styles : List Style) (lock : Option Day) (held rows : List Record) (place : ℕ)
+    (refusal : Refusal) : Type 0 where
+  pub before : refused_in styles lock held (take place rows) ≡ None
+  pub here : refused_in styles lock held (take (place + 1) rows) ≡ Some refusal
+
 -- the new ones: no record before has their mark
 abbrev pub new_in : List Record → List Record → List Record
 new_in held [] = []
@@ -164,6 +175,7 @@ file_refusal styles lock held file =
     (option_or (refused_in styles lock held (records_in_file styles file))
     (verdict (entries held ++ entries (new_in held (records_in_file styles file)))))
 
+-- why a branch refuses a file, if it does
 abbrev pub enter_refusal : Federation → List ℕ → List Located → Option Refusal
 enter_refusal f name file = file_refusal f.styles (lock_of f name) (records_of f name) file
 
@@ -171,6 +183,7 @@ enter_refusal f name file = file_refusal f.styles (lock_of f name) (records_of f
 abbrev pub entered_answer : ℕ → ℕ → Answer
 entered_answer new all = Entered new (all - new)
 
+-- the reply to a file: how many of its transactions are new and how many repeated, or the refusal
 abbrev pub enter_reply : Federation → List ℕ → List Located → Result Answer Refusal
 enter_reply f name file =
     if not (has_branch f name) then Err (Plain UnknownBranch)
@@ -208,6 +221,7 @@ dispatch_refusal lock held d =
     else if is_locked lock d.day then Some (Plain Locked)
     else verdict (entries held ++ entries (dispatch_record (transfer_of d) ∷ []))
 
+-- the reply to a dispatch
 abbrev pub dispatch_reply : Federation → Dispatch → Result Answer Refusal
 dispatch_reply f d =
     if not (has_branch f d.source) then Err (Plain UnknownBranch)
@@ -287,6 +301,7 @@ receipt_reply f r (Some t) =
     if not (bytes_eq t.target r.branch) then Err (Plain WrongBranch)
     else held_reply f t r (find (has_key (key_of r.part)) (receipts_of t))
 
+-- the reply to a receipt
 abbrev pub receive_reply : Federation → Receive → Result Answer Refusal
 receive_reply f r =
     if not (has_branch f r.branch) then Err (Plain UnknownBranch)
@@ -328,6 +343,7 @@ closed_reply f c None =
 closed_reply f c (Some r) =
     if pointwise bytes_eq r.txn.comments (choice_comments c.choice) then Ok Repeated else Err (Plain MarkClash)
 
+-- the reply to a closing
 abbrev pub close_reply : Federation → Close → Result Answer Refusal
 close_reply f c =
     if not (has_branch f c.branch) then Err (Plain UnknownBranch)
@@ -374,6 +390,7 @@ pub record Outcome : Type 0 where
   pub reply : Result Answer Refusal
   pub next : Federation
 
+-- the step of a command: its reply, and the state after it
 abbrev pub step : Federation → Command → Outcome
 step f c = record { reply = reply f c; next = after f c (reply f c) }
 

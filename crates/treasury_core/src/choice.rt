@@ -71,7 +71,7 @@ fn is_named(part: &str, name: &str) -> bool
 }
 
 /// Whether the account is a revenue or expense account.
-fn is_revenue_or_expense(account: &str) -> bool
+pub fn is_revenue_or_expense(account: &str) -> bool
     ensures { result ≡ is_revenue_or_expense account.now }
 {
     let part = first_part(account);

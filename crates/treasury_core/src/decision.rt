@@ -43,7 +43,7 @@ pub(crate) fn has_branch<L: Ledger>(state: &State<L>, name: &str) -> bool
 }
 
 /// The day through which the branch of that name is locked, if it is.
-fn lock_of<L: Ledger>(state: &State<L>, name: &str) -> Option<Day>
+pub fn lock_of<L: Ledger>(state: &State<L>, name: &str) -> Option<Day>
     ensures { result ≡ lock_of state.now name.now }
 {
     match find_branch(state, name) {
@@ -258,7 +258,7 @@ fn new_records<L: Ledger>(
     let held = branch.records.items();
     let new = match new_of(alloc, styles, branch.locked, held, &branch.index, rows) {
         Ok(new) => new,
-        Err(refusal) => return Err(refusal),
+        Err(stop) => return Err(stop.refusal),
     };
     match check(alloc, &branch.ledger, new.items()) {
         Ok(()) => Ok(new),

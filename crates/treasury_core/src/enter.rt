@@ -9,7 +9,7 @@ ghost use Rattle.journal_format.specs.Printable.{IsPrintable};
 ghost use Rattle.treasury_state.specs.Mark.{held, is_product_mark, HaveOwnMarks};
 ghost use Rattle.treasury_state.specs.Good.{IsGoodRecord};
 ghost use Rattle.treasury_state.specs.Index.{IsIndexOf};
-ghost use Rattle.treasury_core.specs.Step.{barred, refused_in, new_in};
+ghost use Rattle.treasury_core.specs.Step.{barred, refused_in, new_in, StopsAt};
 ghost use Rattle.treasury_core.specs.Judged.{judged};
 
 use book_core::Refusal;
@@ -19,7 +19,7 @@ use std::collections::HashMap;
 use treasury_state::{Record, find_mark, has_transit, is_locked, push_marked, text_of};
 
 /// Whether the mark belongs to the product.
-pub(crate) fn is_product_mark(mark: &str) -> bool
+pub fn is_product_mark(mark: &str) -> bool
     ensures { result ≡ is_product_mark mark.now }
 {
     mark.starts_with("out:") || mark.starts_with("in:") || mark.starts_with("close:")
@@ -99,36 +99,51 @@ fn is_new(
     }
 }
 
-/// The transactions of a file that are new to a branch with these records, in order; or the first refusal.
-pub(crate) fn new_of(
+/// Where the transactions of a file are refused, as they are taken in turn.
+#[derive(Clone, Copy, Debug, PartialEq, Eq)]
+pub struct Stop {
+    /// The place of the one that is refused, from 0.
+    pub place: usize,
+    pub refusal: Refusal,
+}
+
+/// The transactions of a file that are new to a branch with these records, in order; or the first that is refused.
+pub fn new_of(
     alloc: Global,
     styles: &Styles,
     lock: Option<Day>,
     base: &[Record],
     index: &HashMap<String, usize>,
     rows: Items<Record>,
-) -> Result<Items<Record>, Refusal>
+) -> Result<Items<Record>, Stop>
     requires index { IsIndexOf index.now base.now }
     requires own { HaveOwnMarks base.now }
     requires base { AllByRecursion (IsGoodRecord styles.now) base.now }
     requires rows { AllByRecursion (IsGoodRecord styles.now) rows }
     ensures value { IfOk result (λ new. new ≡ new_in base.now rows) }
     ensures taken { OnOk result (refused_in styles.now lock base.now rows ≡ None) }
-    ensures err { IfErr result (λ e.
-        (e ≡ Refusal.Plain Cause.OutOfMemory) ⊎ (refused_in styles.now lock base.now rows ≡ Some e)) }
+    ensures err { IfErr result (λ stop. (stop.refusal ≡ Refusal.Plain Cause.OutOfMemory)
+        ⊎ (refused_in styles.now lock base.now rows ≡ Some stop.refusal)) }
+    // Where it is no want of memory, those before the place are taken, and the one there is refused so.
+    ensures stops { IfErr result (λ stop. (stop.refusal ≡ Refusal.Plain Cause.OutOfMemory)
+        ⊎ StopsAt styles.now lock base.now rows stop.place stop.refusal) }
 {
     let mut new = Items::empty(alloc);
     let mut marks = HashMap::new(alloc);
+    let mut passed = 0;
     'rows: for row in rows.into_vec() {
+        let place = passed;
+        passed += 1;
         let holder = holder_of(index, base, &marks, new.items(), row.mark.as_str());
         match is_new(alloc, styles, lock, &row, holder) {
             Ok(true) => {
                 if let Err(cause) = push_marked(alloc, &mut new, &mut marks, row) {
-                    return Err(Refusal::Plain(cause));
+                    let refusal = Refusal::Plain(cause);
+                    return Err(Stop { place, refusal });
                 }
             }
             Ok(false) => {}
-            Err(refusal) => return Err(refusal),
+            Err(refusal) => return Err(Stop { place, refusal }),
         }
     }
     Ok(new)

@@ -124,7 +124,7 @@ fn record_in_file(
 }
 
 /// The records of a file's transactions, in order; or the first fault of one.
-pub(crate) fn records_in_file(
+pub fn records_in_file(
     alloc: Global,
     styles: &Styles,
     file: &[Located],

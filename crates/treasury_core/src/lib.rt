@@ -11,10 +11,13 @@ mod enter;
 mod file;
 mod receive;
 
-pub use choice::Choice;
+pub use choice::{Choice, is_revenue_or_expense};
 pub use closing::closing_entry;
 pub use command::{Answer, AskedPart, Close, Command, Dispatch, Receive};
-pub use decision::{decide, foresee};
+pub use decision::{decide, foresee, lock_of};
+pub use enter::{Stop, is_product_mark, new_of};
+pub use file::records_in_file;
+pub use receive::find_part;
 pub use treasury_state::{
     Addition, Branch, BranchRow, ClaimRow, Delta, EntryRow, LegRow, MAX_BRANCHES, Part, PartRow,
     Parts, Receipt, Record, State, Transfer, TransferRow, UnitRow, apply, mark_of, open_amount,

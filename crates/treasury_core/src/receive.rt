@@ -80,7 +80,7 @@ fn has_nothing_left(transfer: &Transfer, receive: &Receive) -> bool
 }
 
 /// The receipt of a part under that key.
-fn find_part<'a>(parts: &'a [Part], key: &str) -> Option<&'a Part>
+pub fn find_part<'a>(parts: &'a [Part], key: &str) -> Option<&'a Part>
     ensures { option_copied result ≡ find (has_key key.now) parts.now }
 {
     parts.iter().find(|part| part.key.as_str() == key)

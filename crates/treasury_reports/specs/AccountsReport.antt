@@ -16,5 +16,6 @@ accounts_text f name = flat_map account_line (book_accounts (book_of f name))
 abbrev pub account_cells : List ℕ → List (List ℕ)
 account_cells account = account ∷ []
 
+-- the report in JSON: a row for each account, in the same order
 abbrev pub accounts_rows : Federation → List ℕ → List (List (List ℕ))
 accounts_rows f name = map account_cells (book_accounts (book_of f name))

@@ -54,12 +54,15 @@ abbrev pub balance_row : List Style → List Entry → Day → List ℕ → Comm
 balance_row styles entries day account unit =
     amount_row styles account unit (balance Own entries account unit (Through day))
 
+-- the rows of an account
 abbrev pub account_rows : List Style → List Entry → Day → List ℕ → List (List (List ℕ))
 account_rows styles entries day account =
     flat_map (balance_row styles entries day account) (first_units (length styles))
 
+-- the rows of a book
 unfoldable pub book_rows : List Style → List Entry → Day → List (List (List ℕ))
 book_rows styles entries day = flat_map (account_rows styles entries day) (book_accounts entries)
 
+-- the report of a branch in JSON
 abbrev pub balance_rows : Federation → List ℕ → Day → List (List (List ℕ))
 balance_rows f name day = book_rows f.styles (book_of f name) day

@@ -31,5 +31,6 @@ lock_cell (Some day) = if is_in_calendar day then printed_date day else codes "?
 abbrev pub branch_cells : Branch → List (List ℕ)
 branch_cells b = lock_cell b.locked ∷ (decimal (length b.records) ∷ (b.name ∷ []))
 
+-- the report in JSON: a row for each branch
 abbrev pub branches_rows : Federation → List (List (List ℕ))
 branches_rows f = map branch_cells f.branches

@@ -35,6 +35,7 @@ commodities_text f = flat_map sample_line f.styles
 abbrev pub sample_cells : Style → List (List ℕ)
 sample_cells s = sample_text s ∷ []
 
+-- the report in JSON: a row for each commodity
 abbrev pub commodities_rows : Federation → List (List (List ℕ))
 commodities_rows f = map sample_cells f.styles
 

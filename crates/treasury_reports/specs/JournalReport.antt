@@ -13,5 +13,6 @@ branch_journal f name = journal_text f.styles (txns_in (records_of f name))
 abbrev pub txn_cells : List Style → Txn → List (List ℕ)
 txn_cells styles t = txn_text styles t ∷ []
 
+-- the report in JSON: a row for each transaction
 unfoldable pub journal_rows : Federation → List ℕ → List (List (List ℕ))
 journal_rows f name = map (txn_cells f.styles) (txns_in (records_of f name))

@@ -32,12 +32,15 @@ abbrev pub layout_text : Layout → List ℕ → List (List ℕ) → List ℕ
 layout_text Text line cells = line
 layout_text Json line cells = comma_row cells
 
+-- one account
 abbrev pub account_piece : Layout → List ℕ → List ℕ
 account_piece layout account = layout_text layout (account_line account) (account_cells account)
 
+-- one commodity
 abbrev pub sample_piece : Layout → Style → List ℕ
 sample_piece layout s = layout_text layout (sample_line s) (sample_cells s)
 
+-- one branch
 abbrev pub branch_piece : Layout → Branch → List ℕ
 branch_piece layout b = layout_text layout (branch_line b) (branch_cells b)
 
@@ -45,6 +48,7 @@ branch_piece layout b = layout_text layout (branch_line b) (branch_cells b)
 abbrev pub transfer_piece : Layout → List Style → Day → Transfer → List ℕ
 transfer_piece layout styles day t = layout_text layout (transfer_line styles day t) (transfer_cells styles day t)
 
+-- one transfer, if something of it is open through the day
 abbrev pub pending_piece : Layout → List Style → Day → Transfer → List ℕ
 pending_piece layout styles day t = if is_pending day t then transfer_piece layout styles day t else []
 
@@ -53,14 +57,17 @@ abbrev pub amount_piece : Layout → List Style → List ℕ → Commodity → �
 amount_piece Text styles account unit quantity = amount_line styles account unit quantity
 amount_piece Json styles account unit quantity = flat_map comma_row (amount_row styles account unit quantity)
 
+-- the balance of an account in a commodity
 abbrev pub balance_piece : Layout → List Style → List Entry → Day → List ℕ → Commodity → List ℕ
 balance_piece layout styles entries day account unit =
     amount_piece layout styles account unit (balance Own entries account unit (Through day))
 
+-- the balances of an account
 abbrev pub account_pieces : Layout → List Style → List Entry → Day → List ℕ → List ℕ
 account_pieces layout styles entries day account =
     flat_map (balance_piece layout styles entries day account) (first_units (length styles))
 
+-- the balances of a book
 abbrev pub book_pieces : Layout → List Style → List Entry → Day → List ℕ
 book_pieces layout styles entries day = flat_map (account_pieces layout styles entries day) (book_accounts entries)
 
@@ -68,16 +75,20 @@ book_pieces layout styles entries day = flat_map (account_pieces layout styles e
 abbrev pub open_piece : Layout → Federation → Day → List ℕ → List ℕ → Commodity → List ℕ
 open_piece layout f day from to unit = layout_text layout (open_line f day from to unit) (open_cells f day from to unit)
 
+-- what is open between two branches in a commodity, if a transfer went that way
 abbrev pub transit_piece : Layout → Federation → Day → List ℕ → List ℕ → Commodity → List ℕ
 transit_piece layout f day from to unit =
     if has_way f.transfers from to unit day then open_piece layout f day from to unit else []
 
+-- what is open between two branches
 abbrev pub way_pieces : Layout → Federation → Day → List ℕ → List ℕ → List ℕ
 way_pieces layout f day from to = flat_map (transit_piece layout f day from to) (first_units (length f.styles))
 
+-- what is open from one branch
 abbrev pub pieces_from : Layout → Federation → Day → List ℕ → List ℕ
 pieces_from layout f day from = flat_map (way_pieces layout f day from) (branch_names f)
 
+-- what is open between all branches
 abbrev pub transit_pieces : Layout → Federation → Day → List ℕ
 transit_pieces layout f day = flat_map (pieces_from layout f day) (branch_names f)
 
@@ -85,6 +96,7 @@ transit_pieces layout f day = flat_map (pieces_from layout f day) (branch_names 
 abbrev pub register_piece : Layout → List Style → Listed → ℤ → List ℕ
 register_piece layout styles x sum = layout_text layout (register_line styles x sum) (register_cells styles x sum)
 
+-- listed legs after others
 abbrev pub register_pieces : Layout → List Style → List Listed → List Listed → List ℕ
 register_pieces layout styles before [] = []
 register_pieces layout styles before (x ∷ xs) =

@@ -113,5 +113,6 @@ rows_behind styles before [] = []
 rows_behind styles before (x ∷ xs) =
     register_cells styles x (value x.leg.unit (legs_in (before ++ x ∷ []))) ∷ rows_behind styles (before ++ x ∷ []) xs
 
+-- the register in JSON
 unfoldable pub register_rows : Federation → List ℕ → List ℕ → Option (List ℕ) → List (List (List ℕ))
 register_rows f name account tag = rows_behind f.styles [] (by_day (listed_from account tag 1 (records_of f name)))

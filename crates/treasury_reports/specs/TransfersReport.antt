@@ -40,6 +40,7 @@ transfer_cells styles day t =
     printed_date t.day ∷ (printed_in styles t.unit t.qty ∷ (printed_in styles t.unit (open_of t day)
     ∷ (t.source ∷ (t.target ∷ (t.id ∷ [])))))
 
+-- the report in JSON: a row for each listed transfer
 unfoldable pub transfers_rows : Federation → Day → List (List (List ℕ))
 transfers_rows f day = map (transfer_cells f.styles day) (pending day f.transfers)
 

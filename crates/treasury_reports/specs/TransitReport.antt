@@ -60,11 +60,14 @@ abbrev pub transit_row : Federation → Day → List ℕ → List ℕ → Commod
 transit_row f day from to unit =
     if has_way f.transfers from to unit day then open_cells f day from to unit ∷ [] else []
 
+-- the rows from one branch to another
 abbrev pub way_rows : Federation → Day → List ℕ → List ℕ → List (List (List ℕ))
 way_rows f day from to = flat_map (transit_row f day from to) (first_units (length f.styles))
 
+-- the rows from one branch
 abbrev pub rows_from : Federation → Day → List ℕ → List (List (List ℕ))
 rows_from f day from = flat_map (way_rows f day from) (branch_names f)
 
+-- the report in JSON
 unfoldable pub transit_rows : Federation → Day → List (List (List ℕ))
 transit_rows f day = flat_map (rows_from f day) (branch_names f)

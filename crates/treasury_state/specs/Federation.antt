@@ -62,6 +62,7 @@ abbrev pub records_in : List Branch → List ℕ → List Record
 records_in [] name = []
 records_in (b ∷ bs) name = if bytes_eq b.name name then b.records else records_in bs name
 
+-- the records of the branch of that name in a state
 abbrev pub records_of : Federation → List ℕ → List Record
 records_of f name = records_in f.branches name
 
@@ -70,6 +71,7 @@ abbrev pub lock_in : List Branch → List ℕ → Option Day
 lock_in [] name = None
 lock_in (b ∷ bs) name = if bytes_eq b.name name then b.locked else lock_in bs name
 
+-- its lock day
 abbrev pub lock_of : Federation → List ℕ → Option Day
 lock_of f name = lock_in f.branches name
 

@@ -22,6 +22,7 @@ new_branch name = record { name = name; locked = None; records = [] }
 abbrev pub with_records : List Record → Branch → Branch
 with_records rs b = record b { records = b.records ++ rs }
 
+-- a branch with a lock day
 abbrev pub with_lock : Day → Branch → Branch
 with_lock day b = record b { locked = Some day }
 
@@ -45,6 +46,7 @@ abbrev pub parts_with : Bool → Part → List Part → List Part
 parts_with true p ps = ps
 parts_with false p ps = put_part p ps
 
+-- the receipt of the rest, after one receipt more
 abbrev pub rest_with : Bool → Part → Option Receipt → Option Receipt
 rest_with true p o = Some (record { day = p.day; payee = p.payee })
 rest_with false p o = o
@@ -63,18 +65,23 @@ received id p (x ∷ xs) = if bytes_eq x.id id then with_receipt p x ∷ xs else
 abbrev pub with_style : Federation → Style → Federation
 with_style f style = record f { styles = f.styles ++ style ∷ [] }
 
+-- the state with one branch more
 abbrev pub with_branch : Federation → List ℕ → Federation
 with_branch f name = record f { branches = f.branches ++ new_branch name ∷ [] }
 
+-- the state with more records of a branch
 abbrev pub with_entered : Federation → List ℕ → List Record → Federation
 with_entered f name rs = record f { branches = changed (with_records rs) name f.branches }
 
+-- the state with a lock day of a branch
 abbrev pub with_locked : Federation → List ℕ → Day → Federation
 with_locked f name day = record f { branches = changed (with_lock day) name f.branches }
 
+-- the state with one transfer more
 abbrev pub with_dispatched : Federation → Transfer → Federation
 with_dispatched f t = record f { transfers = inserted t f.transfers }
 
+-- the state with one receipt more of a transfer
 abbrev pub with_received : Federation → List ℕ → Part → Federation
 with_received f id p = record f { transfers = received id p f.transfers }
 

@@ -55,10 +55,12 @@ abbrev pub entry_row : List Style → ℕ → ℕ → Record → EntryRow
 entry_row styles b n r =
     record { branch = pos b; nr = pos n; day = r.entry.day.0; mark = r.mark; body = body_text styles r.txn }
 
+-- the row of the k-th leg of the n-th record of the b-th branch
 abbrev pub leg_row : ℕ → ℕ → ℕ → Leg → LegRow
 leg_row b n k x =
     record { branch = pos b; entry = pos n; nr = pos k; account = x.account; unit = pos x.unit.0; qty = x.qty }
 
+-- the row of an assertion of the n-th record of the b-th branch
 abbrev pub claim_row : ℕ → ℕ → Placed → ClaimRow
 claim_row b n x = record {
   branch = pos b;
@@ -69,9 +71,11 @@ claim_row b n x = record {
   qty = x.claim.qty;
 }
 
+-- the rows of all legs of a record
 abbrev pub leg_rows : ℕ → ℕ → Record → List LegRow
 leg_rows b n r = map (λ p. leg_row b n p.0 p.1) (enumerate_from 1 r.entry.legs)
 
+-- the rows of all assertions of a record
 abbrev pub claim_rows : ℕ → ℕ → Record → List ClaimRow
 claim_rows b n r = map (claim_row b n) r.entry.claims
 
@@ -79,9 +83,11 @@ claim_rows b n r = map (claim_row b n) r.entry.claims
 abbrev pub entry_rows_from : List Style → ℕ → ℕ → List Record → List EntryRow
 entry_rows_from styles b n rs = map (λ p. entry_row styles b p.0 p.1) (enumerate_from n rs)
 
+-- the rows of the legs of records, numbered from n
 abbrev pub leg_rows_from : ℕ → ℕ → List Record → List LegRow
 leg_rows_from b n rs = flat_map (λ p. leg_rows b p.0 p.1) (enumerate_from n rs)
 
+-- the rows of the assertions of records, numbered from n
 abbrev pub claim_rows_from : ℕ → ℕ → List Record → List ClaimRow
 claim_rows_from b n rs = flat_map (λ p. claim_rows b p.0 p.1) (enumerate_from n rs)
 
@@ -93,12 +99,15 @@ unit_rows styles = map (λ p. unit_row p.0 p.1) (enumerate_from 0 styles)
 abbrev pub branch_rows_from : ℕ → List Branch → List BranchRow
 branch_rows_from b bs = map (λ p. branch_row p.0 p.1) (enumerate_from b bs)
 
+-- the rows of the entries of branches, numbered from b
 abbrev pub entry_rows_in : List Style → ℕ → List Branch → List EntryRow
 entry_rows_in styles b bs = flat_map (λ p. entry_rows_from styles p.0 1 p.1.records) (enumerate_from b bs)
 
+-- the rows of the legs of branches, numbered from b
 abbrev pub leg_rows_in : ℕ → List Branch → List LegRow
 leg_rows_in b bs = flat_map (λ p. leg_rows_from p.0 1 p.1.records) (enumerate_from b bs)
 
+-- the rows of the assertions of branches, numbered from b
 abbrev pub claim_rows_in : ℕ → List Branch → List ClaimRow
 claim_rows_in b bs = flat_map (λ p. claim_rows_from p.0 1 p.1.records) (enumerate_from b bs)
 

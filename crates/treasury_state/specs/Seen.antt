@@ -9,6 +9,7 @@ use Rattle.treasury_state.specs.Federation.{Branch, Federation}
 abbrev pub branch_of : {L : Type 0} → Kept L → Branch
 branch_of b = record { name = b.name; locked = b.locked; records = b.records }
 
+-- the same of each branch, in order
 abbrev pub branches_of : {L : Type 0} → List (Kept L) → List Branch
 branches_of bs = map branch_of bs
 

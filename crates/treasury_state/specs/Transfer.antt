@@ -87,6 +87,7 @@ most_key_bytes = 32
 abbrev pub all_key : List ℕ
 all_key = codes "all"
 
+-- the key is `all`
 abbrev pub is_all : List ℕ → Bool
 is_all key = bytes_eq key all_key
 
@@ -103,6 +104,7 @@ sum_of_parts (p ∷ ps) = p.qty +ℤ sum_of_parts ps
 abbrev pub rest_part : Transfer → Receipt → Part
 rest_part t r = record { key = all_key; qty = t.qty -ℤ sum_of_parts t.parts; day = r.day; payee = r.payee }
 
+-- the receipt of the rest, if there is one
 abbrev pub of_rest : Transfer → Option Receipt → List Part
 of_rest t None = []
 of_rest t (Some r) = rest_part t r ∷ []

@@ -14,7 +14,7 @@ use Rattle.treasury_state.specs.declared.record.Record.{Record}
 use Rattle.treasury_told.specs.DryRun.{listed_entry, listed_entries, shown_lines, shown_entries}
 use Rattle.treasury_told.specs.OtherBranch.{AreAllPrintable}
 use Rattle.treasury_told.specs.Shown.{shown_text, line_text}
-use Rattle.treasury_told.proofs.FirstNoteLemmas.{all_drop}
+use Rattle.treasury_told.proofs.ImportNoteLemmas.{all_drop}
 
 -- ---- one piece more before the rest
 piece_more : (out next piece rest : List ℕ) → next ≡ out ++ piece → next ++ rest ≡ out ++ (piece ++ rest)

@@ -1,7 +1,6 @@
 -- a day that a text writes, and sums that are too great for an amount
-use Rattle.std.proofs.Common.{◌≡◌, ◌∙◌, Bool, true, false, ◌&&◌, sym, ap, ℤ, List}
-use Rattle.std.proofs.Common.{◌++◌}
-use Rattle.std.specs.Prelude.{◌↔◌, IsTrue, codes, nat_le, nat_lt, unsigned_abs, if◌then◌else◌, length, ℕ}
+use Rattle.std.proofs.Common.{◌≡◌, ◌∙◌, Bool, true, false, sym, ap}
+use Rattle.std.specs.Prelude.{◌↔◌, IsTrue, codes, if◌then◌else◌}
 use Rattle.money_core.specs.declared.day.Day.{Day}
 use Rattle.journal_lines.specs.Date.{IsDayNumber, printed_date}
 use Rattle.journal_lines.proofs.DateLemmas.{calendar_test}

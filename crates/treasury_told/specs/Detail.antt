@@ -47,7 +47,6 @@ is_of_transaction is.MarkClash = true
 is_of_transaction is.ReservedMark = true
 is_of_transaction is.ReservedAccount = true
 is_of_transaction is.Locked = true
-is_of_transaction is.Limit = true
 is_of_transaction other = false
 
 abbrev pub has_import_detail : Request → Cause → Bool

@@ -8,11 +8,10 @@ use Rattle.journal_format.specs.CanonicalText.{txn_text}
 use Rattle.treasury_state.specs.declared.record.Record.{Record}
 use Rattle.treasury_state.specs.declared.delta.Addition.{Addition}
 use Rattle.treasury_state.specs.declared.delta.Addition.TheVariants as add
-use Rattle.treasury_state.specs.Federation.{Federation, records_of}
+use Rattle.treasury_state.specs.Federation.{Federation}
 use Rattle.treasury_requests.specs.declared.request.Request.{Request}
 use Rattle.treasury_requests.specs.declared.request.Request.TheVariants as req
-use Rattle.treasury_told.specs.Added.{added_lines}
-use Rattle.treasury_told.specs.ImportNotes.{import_ahead}
+use Rattle.treasury_told.specs.ImportNotes.{new_lines, import_ahead}
 use Rattle.treasury_told.specs.OtherBranch.{AreAllPrintable}
 use Rattle.treasury_told.specs.Pieces.{origin_text, header_text}
 use Rattle.treasury_told.specs.RequestNotes.{notes_ahead}
@@ -78,5 +77,5 @@ dry_run_text f request additions =
 -- the same of an import that would add these records, where the journal has these transactions
 abbrev pub import_dry_run : Federation → List ℕ → List ℕ → List ℕ → List Record → List Located → List ℕ
 import_dry_run f name source text new list =
-    first_entries source (added_lines f.styles (records_of f name) list) new
+    first_entries source (new_lines f.styles list new) new
     ++ import_ahead f name source text new list

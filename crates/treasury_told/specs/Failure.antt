@@ -1,6 +1,6 @@
 -- What is said of an assertion that fails (own rule; docs/RULES.md, "Explanations").
 use Rattle.std.specs.Prelude.{ℕ, ℤ, ◌+◌, ◌-◌, ◌-ℤ◌, nat_lt, nat_eq, Bool, true, false, not, ◌&&◌, if◌then◌else◌}
-use Rattle.std.specs.Prelude.{List, [], ◌≡◌, ◌⊎◌, ◌∷◌, ◌++◌, length, take, find, codes, decimal, Option, Some, None}
+use Rattle.std.specs.Prelude.{List, [], ◌∷◌, ◌++◌, length, take, find, codes, decimal, Option, Some, None}
 use Rattle.std.specs.Prelude.{slice_get}
 use Rattle.std.specs.List.{list_any, flat_map, position_from}
 use Rattle.std.specs.Option.{option_map}
@@ -8,7 +8,6 @@ use Rattle.std.specs.Cmp.Lexicographic.{pointwise}
 use Rattle.std.specs.Ordering.{int_eq}
 use Rattle.std.specs.Str.{bytes_eq}
 use Rattle.money_core.specs.declared.cause.Cause.TheVariants.{ClaimFailed}
-use Rattle.money_core.specs.declared.cause.Fault.{Fault}
 use Rattle.money_core.specs.declared.style.Style.{Style}
 use Rattle.money_core.specs.declared.unit.Unit.{Unit as Commodity}
 use Rattle.book_core.specs.declared.account.Reach.{Reach}
@@ -25,32 +24,19 @@ use Rattle.book_core.specs.Place.{place_le}
 use Rattle.journal_lines.specs.declared.header.Status.{Status}
 use Rattle.journal_lines.specs.declared.header.Status.TheVariants.{Cleared, Pending}
 use Rattle.journal_format.specs.declared.txn.Txn.{Txn}
-use Rattle.journal_format.specs.Fault.{IsFirstFault}
-use Rattle.journal_format.specs.Pieces.{Reads}
-use Rattle.journal_balance.specs.Legs.{balanced_entry}
+use Rattle.journal_format.specs.declared.txn.Located.{Located}
 use Rattle.treasury_state.specs.declared.record.Record.{Record}
 use Rattle.treasury_state.specs.Federation.{Federation, records_of}
+use Rattle.treasury_core.specs.Step.{records_in_file, new_in}
 use Rattle.treasury_requests.specs.declared.request.Request.{Request}
 use Rattle.treasury_requests.specs.declared.request.Request.TheVariants as req
-use Rattle.treasury_told.specs.declared.explain.standing.Standing.{Standing}
 use Rattle.treasury_told.specs.declared.explain.touching.Watched.{Watched}
 use Rattle.treasury_told.specs.Shown.{named_text}
-use Rattle.treasury_told.specs.Standing.{entry_in, located_of, AreStanding}
+use Rattle.treasury_told.specs.Reading.{line_of}
 use Rattle.treasury_told.specs.Pieces.{named_amount, header_text, origin_text, sentence_line, source_line}
-use Rattle.treasury_told.specs.Numbered.{item_of_number, new_of, EntryOf, held, brought, entries_with}
+use Rattle.treasury_told.specs.Numbered.{item_of_number}
 
 -- ---- the entry, and what is asserted and found
-
--- the entry of one that a branch holds or that a text would bring
-abbrev pub own_entry : List Style → Option EntryOf → Option Entry
-own_entry styles None = None
-own_entry styles (Some (held r)) = Some r.entry
-own_entry styles (Some (brought s)) = entry_in (balanced_entry styles s.txn)
-
--- the leg of a number of an entry, if there is one
-abbrev pub leg_of : Option Entry → ℕ → Option Leg
-leg_of None k = None
-leg_of (Some e) k = item_of_number e.legs k
 
 -- the line with the account of a leg
 abbrev pub account_text : Option Leg → List ℕ
@@ -66,16 +52,17 @@ unfoldable pub held_claim_text : ℕ → ℕ → Record → List ℕ
 held_claim_text n k r =
     sentence_line [] ClaimFailed ++ account_text (item_of_number r.entry.legs k) ++ entry_header_line n r.txn []
 
-unfoldable pub new_claim_text : List Style → List ℕ → List ℕ → ℕ → ℕ → Standing → List ℕ
-new_claim_text styles source text n k s =
-    sentence_line (origin_text source s.line) ClaimFailed ++ source_line text s.line
-    ++ account_text (leg_of (entry_in (balanced_entry styles s.txn)) k)
-    ++ entry_header_line n s.txn (codes ", which is new")
+unfoldable pub new_claim_text : List ℕ → List ℕ → ℕ → ℕ → ℕ → Record → List ℕ
+new_claim_text source text line n k r =
+    sentence_line (origin_text source line) ClaimFailed ++ source_line text line
+    ++ account_text (item_of_number r.entry.legs k) ++ entry_header_line n r.txn (codes ", which is new")
 
-abbrev pub claim_place_text : List Style → List ℕ → List ℕ → ℕ → ℕ → Option EntryOf → List ℕ
-claim_place_text styles source text n k None = sentence_line [] ClaimFailed
-claim_place_text styles source text n k (Some (held r)) = held_claim_text n k r
-claim_place_text styles source text n k (Some (brought s)) = new_claim_text styles source text n k s
+-- in a branch that holds so many entries; a text has the transaction of a new one on its line
+abbrev pub claim_place_text : List ℕ → List ℕ → (Record → ℕ) → ℕ → Place → Option Record → List ℕ
+claim_place_text source text line count place None = sentence_line [] ClaimFailed
+claim_place_text source text line count place (Some r) =
+    if nat_lt count place.entry then new_claim_text source text (line r) place.entry place.leg r
+    else held_claim_text place.entry place.leg r
 
 -- what is found less what is asserted
 abbrev pub difference : ℤ → ℤ → ℤ
@@ -103,9 +90,9 @@ abbrev pub watched_of : Entry → ℕ → Option Watched
 watched_of e k =
     option_map (λ (x : Leg). record { account = x.account; reach = reach_on e.claims k }) (item_of_number e.legs k)
 
-abbrev pub watched_in : Option Entry → ℕ → Option Watched
+abbrev pub watched_in : Option Record → ℕ → Option Watched
 watched_in None k = None
-watched_in (Some e) k = watched_of e k
+watched_in (Some r) k = watched_of r.entry k
 
 -- the leg is on an account that is looked at, before a place
 abbrev pub is_seen : Watched → Place → Posted → Bool
@@ -115,16 +102,11 @@ is_seen w end x = reaches w.reach w.account x.leg.account && not (place_le end x
 unfoldable pub touches_watched : Watched → Place → ℕ → Entry → Bool
 touches_watched w end n e = list_any (is_seen w end) (posted_legs e.day n 1 e.legs)
 
-abbrev pub touches_in : Watched → Place → ℕ → Option Entry → Bool
-touches_in w end n None = false
-touches_in w end n (Some e) = touches_watched w end n e
-
--- those of new transactions, numbered from n, whose entries have
-abbrev pub touching : List Style → Watched → Place → ℕ → List Standing → List Standing
-touching styles w end n [] = []
-touching styles w end n (s ∷ rest) =
-    (if touches_in w end n (entry_in (balanced_entry styles s.txn)) then s ∷ [] else [])
-    ++ touching styles w end (n + 1) rest
+-- those of new records, numbered from n, whose entries have
+abbrev pub touching : Watched → Place → ℕ → List Record → List Record
+touching w end n [] = []
+touching w end n (r ∷ rest) =
+    (if touches_watched w end n r.entry then r ∷ [] else []) ++ touching w end (n + 1) rest
 
 -- ---- the held one that a new transaction may be, edited
 
@@ -181,16 +163,11 @@ shared_text records (Some i) header = record_text (codes "legs") i (slice_get re
 shared_text records None (Some i) = record_text (codes "header") i (slice_get records i)
 shared_text records None None = []
 
-abbrev pub legs_place_in : List Record → Option Entry → Option ℕ
-legs_place_in records None = None
-legs_place_in records (Some e) = legs_place records e
-
 -- a new transaction with its line and header, and the held one that it may be
-unfoldable pub touching_text : List Style → List Record → List ℕ → Standing → List ℕ
-touching_text styles records source s =
-    codes "  new: " ++ origin_text source s.line ++ header_text s.txn
-    ++ shared_text records (legs_place_in records (entry_in (balanced_entry styles s.txn))) (header_place records s.txn)
-    ++ codes "\n"
+unfoldable pub touching_text : List Record → List ℕ → (Record → ℕ) → Record → List ℕ
+touching_text records source line r =
+    codes "  new: " ++ origin_text source (line r) ++ header_text r.txn
+    ++ shared_text records (legs_place records r.entry) (header_place records r.txn) ++ codes "\n"
 
 -- ---- all of it
 
@@ -202,30 +179,28 @@ abbrev pub more_new_text : ℕ → List ℕ
 more_new_text n =
     if nat_lt most_listed n then (codes "  new: and " ++ decimal (n - most_listed) ++ codes " more\n") else []
 
-unfoldable pub touching_list_text : List Style → List Record → List ℕ → List Standing → List ℕ
-touching_list_text styles records source new =
-    flat_map (touching_text styles records source) (take most_listed new) ++ more_new_text (length new)
+unfoldable pub touching_list_text : List Record → List ℕ → (Record → ℕ) → List Record → List ℕ
+touching_list_text records source line new =
+    flat_map (touching_text records source line) (take most_listed new) ++ more_new_text (length new)
 
--- the new transactions that touch what the assertion of a leg looks at, before its place
-abbrev pub touching_leg : List Style → List Record → List Standing → Option Watched → Place → List Standing
-touching_leg styles records found None end = []
-touching_leg styles records found (Some w) end = touching styles w end (length records + 1) (new_of found)
+-- the new ones, numbered from n, that touch what the assertion of a leg looks at, before its place
+abbrev pub touching_leg : ℕ → List Record → Option Watched → Place → List Record
+touching_leg n new None end = []
+touching_leg n new (Some w) end = touching w end n new
 
--- what is asserted and found, and the new transactions that may be why, by the entry of the assertion
-unfoldable pub found_text : List Style → List Record → List ℕ → List Standing → Option Entry → Failure → List ℕ
-found_text styles records source found own f =
-    amounts_text styles f.unit f.asserted f.found
-    ++ touching_list_text styles records source (touching_leg styles records found (watched_in own f.place.leg) f.place)
+-- what is said of a failure in a branch that has these records, to which a text would bring the new ones after them
+abbrev pub failure_of : List Style → List Record → List ℕ → List ℕ → (Record → ℕ) → List Record → Failure
+    → Option Record → List ℕ
+failure_of styles records source text line new f one =
+    claim_place_text source text line (length records) f.place one
+    ++ (amounts_text styles f.unit f.asserted f.found
+    ++ touching_list_text records source line
+    (touching_leg (length records + 1) new (watched_in one f.place.leg) f.place))
 
--- what is said of a failure in a branch that has these records: of a text with these transactions
-abbrev pub failure_of : List Style → List Record → List ℕ → List ℕ → List Standing → Failure → Option EntryOf → List ℕ
-failure_of styles records source text found f one =
-    claim_place_text styles source text f.place.entry f.place.leg one
-    ++ found_text styles records source found (own_entry styles one) f
-
-unfoldable pub failure_text : List Style → List Record → List ℕ → List ℕ → List Standing → Failure → List ℕ
-failure_text styles records source text found f =
-    failure_of styles records source text found f (item_of_number (entries_with records found) f.place.entry)
+unfoldable pub failure_text : List Style → List Record → List ℕ → List ℕ → (Record → ℕ) → List Record → Failure
+    → List ℕ
+failure_text styles records source text line new f =
+    failure_of styles records source text line new f (item_of_number (records ++ new) f.place.entry)
 
 -- the branch whose assertions a request may break
 abbrev pub judged_branch : Request → List ℕ
@@ -244,17 +219,12 @@ abbrev pub text_in : Option (List ℕ) → List ℕ
 text_in None = []
 text_in (Some text) = text
 
--- its transactions, as a branch that has these records takes them; none without a text, or of one with a fault
-abbrev pub AreFound : List Style → List Record → Option (List ℕ) → List Standing → Type 0
-AreFound styles records None found = found ≡ []
-AreFound styles records (Some text) found =
-    (Reads styles text (located_of found) × AreStanding styles records [] found)
-    ⊎ (((first : Fault) × IsFirstFault styles text first) × (found ≡ []))
+abbrev pub text_asked : Request → List ℕ
+text_asked request = text_in (journal_asked request)
 
--- what is appended tells of a failure by which a request is refused
-pub record TellsFailure (f : Federation) (request : Request) (source : List ℕ) (failure : Failure)
-    (old new : List ℕ) : Type 0 where
-  pub found : List Standing
-  pub list : AreFound f.styles (records_of f (judged_branch request)) (journal_asked request) found
-  pub text : new ≡ old ++ failure_text f.styles (records_of f (judged_branch request)) source
-      (text_in (journal_asked request)) found failure
+-- what is said of a failure by which a request is refused, whose text has these transactions
+abbrev pub told_failure : Federation → Request → List ℕ → List Located → Failure → List ℕ
+told_failure f request source list failure =
+    let held = records_of f (judged_branch request) in
+    let rows = records_in_file f.styles list in
+    failure_text f.styles held source (text_asked request) (line_of list rows) (new_in held rows) failure

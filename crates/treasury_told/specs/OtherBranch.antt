@@ -10,7 +10,7 @@ use Rattle.treasury_state.specs.declared.record.Record.{Record}
 use Rattle.treasury_state.specs.Federation.{Branch, Federation, records_of}
 use Rattle.treasury_state.specs.Mark.{held}
 use Rattle.treasury_told.specs.declared.notes.other_branch.Holding.{Holding}
-use Rattle.treasury_told.specs.Again.{is_marked}
+use Rattle.treasury_told.specs.Edited.{is_marked}
 use Rattle.treasury_told.specs.NewAccount.{between}
 use Rattle.treasury_told.specs.Shown.{shown_text}
 

@@ -12,7 +12,7 @@ use Rattle.journal_lines.specs.Date.{printed_date, is_in_calendar}
 use Rattle.journal_lines.specs.Lines.{lines}
 use Rattle.journal_lines.specs.Printed.{header_status, header_code}
 use Rattle.journal_format.specs.declared.txn.Txn.{Txn}
-use Rattle.treasury_told.specs.Sentence.{sentence_of}
+use Rattle.treasury_messages.specs.Sentence.{sentence_of}
 use Rattle.treasury_told.specs.Shown.{shown_text, line_text}
 use Rattle.treasury_told.specs.Numbered.{item_of_number}
 

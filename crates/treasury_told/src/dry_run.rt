@@ -3,28 +3,28 @@
 ghost use Rattle.std.specs.Prelude.{◌≡◌, ◌++◌, ◌-◌, ◌==◌, ℕ, if◌then◌else◌, true, List, [], ◌∷◌, drop, length};
 ghost use Rattle.std.specs.Prelude.{IfOk, OnOk, Option, None};
 ghost use Rattle.std.specs.Result.{IsOkUnless};
-ghost use Rattle.money_core.specs.declared.day.Day.{Day as When};
 ghost use Rattle.journal_format.specs.declared.txn.Located.{Located};
+ghost use Rattle.journal_format.specs.Pieces.{Reads};
 ghost use Rattle.journal_format.specs.CanonicalText.{txn_text};
 ghost use Rattle.journal_format.specs.Printable.{IsPrintable};
-ghost use Rattle.treasury_state.specs.Federation.{has_branch, records_of};
-ghost use Rattle.treasury_told.specs.Added.{added_lines, IsTaken, IsNoneRefused};
 ghost use Rattle.treasury_told.specs.DryRun.{record_added, records_added, listed_entry, listed_entries};
 ghost use Rattle.treasury_told.specs.DryRun.{more_entries, first_entries, shown_lines, shown_entries, entries_ahead};
 ghost use Rattle.treasury_told.specs.DryRun.{CanBeShown, dry_run_text, import_dry_run};
 ghost use Rattle.treasury_told.specs.Failure.{journal_asked};
-ghost use Rattle.treasury_told.specs.ImportNotes.{IsEnteredAhead};
+ghost use Rattle.treasury_told.specs.ImportNotes.{new_lines, IsEnteredAhead};
 ghost use Rattle.treasury_told.specs.OtherBranch.{AreAllPrintable};
 ghost use Rattle.treasury_told.specs.RequestNotes.{notes_ahead};
 ghost use Rattle.treasury_told.specs.SampleNote.{sample_note};
 ghost use Rattle.treasury_told.specs.Shown.{shown_text, line_text};
+ghost use Rattle.treasury_told.specs.Uneven.{IsReadImport};
 
 use crate::explain::pieces::push_header;
 use crate::explain::push_origin;
+use crate::explain::reading::read_rows;
 use crate::explain::shown::{push_number, push_shown};
-use crate::notes::places::new_places;
+use crate::notes::places::lines_of;
 use crate::notes::samples::push_sample_note;
-use crate::notes::{Import, parted, push_notes_ahead};
+use crate::notes::{parted, push_notes_ahead};
 use book_core::Ledger;
 use journal_format::{Txn, is_printable, print_txn};
 use journal_lines::Lines;
@@ -32,7 +32,6 @@ use money_core::{Cause, Copied, Styles};
 use std::alloc::Global;
 use treasury_core::{Addition, Record, State};
 use treasury_requests::Request;
-use treasury_state::find_branch;
 
 /// The most new entries of an import that are listed; of more, a count is given.
 const MOST_LISTED: usize = 200;
@@ -161,62 +160,18 @@ fn push_first_entries(
 fn push_list(
     alloc: Global,
     styles: &Styles,
-    import: &Import<'_>,
-    out: &mut Vec<u8>,
-) -> Result<(), Cause>
-    ensures taken { (list : List Located) (lock : Option When)
-        → IsTaken styles.now import.now.held.now import.now.text.now import.now.new.now list
-        → IsNoneRefused styles.now lock import.now.held.now list → OnOk result
-        (out.new.items ≡ out.old.items ++ first_entries import.now.source.now
-        (added_lines styles.now import.now.held.now list) import.now.new.now) }
-    // And where all of the journal are new.
-    ensures all { (list : List Located)
-        → IsTaken styles.now import.now.held.now import.now.text.now import.now.new.now list
-        → length list ≡ length import.now.new.now → OnOk result
-        (out.new.items ≡ out.old.items ++ first_entries import.now.source.now
-        (added_lines styles.now import.now.held.now list) import.now.new.now) }
-{
-    let places = new_places(alloc, styles, import, &[], false)?;
-    push_first_entries(
-        alloc,
-        import.source,
-        places.lines.as_slice(),
-        import.new,
-        out,
-    )
-}
-
-/// Appends the lines of the entries that an import would make in the branch of that name, if it is there.
-fn push_import_entries<L: Ledger>(
-    alloc: Global,
-    state: &State<L>,
-    name: &str,
     journal: &[u8],
     source: &str,
     new: &[Record],
     out: &mut Vec<u8>,
 ) -> Result<(), Cause>
-    ensures taken { (list : List Located) (lock : Option When) → has_branch state.now name.now ≡ true
-        → IsTaken state.now.styles (records_of state.now name.now) journal.now new.now list
-        → IsNoneRefused state.now.styles lock (records_of state.now name.now) list → OnOk result
-        (out.new.items ≡ out.old.items ++ first_entries source.now
-        (added_lines state.now.styles (records_of state.now name.now) list) new.now) }
+    ensures { (list : List Located) → Reads styles.now journal.now list → OnOk result (out.new.items
+        ≡ out.old.items ++ first_entries source.now (new_lines styles.now list new.now) new.now) }
 {
-    match find_branch(state, name) {
-        Some(branch) => {
-            let held = branch.records.items();
-            let import = Import {
-                source,
-                text: journal,
-                branch: name,
-                held,
-                new,
-                is_dry_run: true,
-            };
-            push_list(alloc, state.styles(), &import, out)
-        }
-        None => Ok(()),
-    }
+    let read = read_rows(alloc, styles, journal)?;
+    let found = lines_of(alloc, &read, new)?;
+    let lines = found.as_slice();
+    push_first_entries(alloc, source, lines, new, out)
 }
 
 /// Appends a line as it is shown, two blanks before it.
@@ -282,18 +237,15 @@ fn push_ahead<L: Ledger>(
     new: &[Record],
     out: &mut Vec<u8>,
 ) -> Result<(), Cause>
-    ensures entered { (name journal : List ℕ) (list : List Located) (lock : Option When)
-        → IsEnteredAhead state.now request.now name journal new.now list
-        → IsNoneRefused state.now.styles lock (records_of state.now name) list → OnOk result
-        (out.new.items ≡ out.old.items
-        ++ first_entries source.now (added_lines state.now.styles (records_of state.now name) list) new.now) }
+    ensures entered { (name journal : List ℕ) (list : List Located)
+        → IsReadImport state.now.styles request.now name journal list → OnOk result (out.new.items
+        ≡ out.old.items ++ first_entries source.now (new_lines state.now.styles list new.now) new.now) }
     ensures others { journal_asked request.now ≡ None → CanBeShown state.now.styles request.now new.now
         → OnOk result (out.new.items ≡ out.old.items ++ entries_ahead state.now.styles request.now new.now) }
 {
     match request {
-        Request::Import { branch, journal } => {
-            let (name, journal) = (branch.as_str(), journal.as_bytes());
-            push_import_entries(alloc, state, name, journal, source, new, out)
+        Request::Import { journal, .. } => {
+            push_list(alloc, state.styles(), journal.as_bytes(), source, new, out)
         }
         Request::Close { .. } => push_texts(alloc, state.styles(), new, out),
         _ => Ok(()),
@@ -309,9 +261,8 @@ fn push_entries_and_notes<L: Ledger>(
     new: &[Record],
     out: &mut Vec<u8>,
 ) -> Result<(), Cause>
-    ensures entered { (name journal : List ℕ) (list : List Located) (lock : Option When)
-        → IsEnteredAhead state.now request.now name journal new.now list
-        → IsNoneRefused state.now.styles lock (records_of state.now name) list → OnOk result
+    ensures entered { (name journal : List ℕ) (list : List Located)
+        → IsEnteredAhead state.now request.now name journal new.now list → OnOk result
         (out.new.items ≡ out.old.items ++ import_dry_run state.now name source.now journal new.now list) }
     ensures others { journal_asked request.now ≡ None → CanBeShown state.now.styles request.now new.now
         → OnOk result (out.new.items ≡ out.old.items
@@ -322,7 +273,12 @@ fn push_entries_and_notes<L: Ledger>(
 }
 
 /// Appends the note of the sample of a commodity that a request would declare, if it would.
-fn push_sample_if_new(sample: &str, additions: &[Addition], out: &mut Vec<u8>) -> Result<(), Cause>
+fn push_sample_if_new(
+    alloc: Global,
+    sample: &str,
+    additions: &[Addition],
+    out: &mut Vec<u8>,
+) -> Result<(), Cause>
     ensures value { OnOk result (out.new.items ≡ out.old.items
         ++ (if length additions.now == 0 then [] else sample_note sample.now)) }
     ensures memory { IsOkUnless result Cause.OutOfMemory }
@@ -330,7 +286,7 @@ fn push_sample_if_new(sample: &str, additions: &[Addition], out: &mut Vec<u8>) -
     if additions.is_empty() {
         return Ok(());
     }
-    push_sample_note(sample, out)
+    push_sample_note(alloc, sample, out)
 }
 
 /// Appends what is said of a dry run that is not refused: by the state, and what the request would add to it. `source`
@@ -345,10 +301,9 @@ pub fn push_dry_run_notes<L: Ledger>(
     additions: &[Addition],
     out: &mut Vec<u8>,
 ) -> Result<(), Cause>
-    // Of an import, where nothing of the journal would be refused.
-    ensures entered { (name journal : List ℕ) (list : List Located) (lock : Option When)
+    // Of an import.
+    ensures entered { (name journal : List ℕ) (list : List Located)
         → IsEnteredAhead state.now request.now name journal (records_added additions.now) list
-        → IsNoneRefused state.now.styles lock (records_of state.now name) list
         → OnOk result (out.new.items ≡ out.old.items
         ++ import_dry_run state.now name source.now journal (records_added additions.now) list) }
     // Of any other request.
@@ -357,7 +312,9 @@ pub fn push_dry_run_notes<L: Ledger>(
         → OnOk result (out.new.items ≡ out.old.items ++ dry_run_text state.now request.now additions.now) }
 {
     match request {
-        Request::Commodity { sample } => push_sample_if_new(sample.as_str(), additions, out),
+        Request::Commodity { sample } => {
+            push_sample_if_new(alloc, sample.as_str(), additions, out)
+        }
         _ => {
             let new = records_among(alloc, additions)?;
             push_entries_and_notes(alloc, state, request, source, new.as_slice(), out)

@@ -10,51 +10,45 @@ mod limits;
 pub(crate) mod lines;
 mod nearly;
 pub(crate) mod numbered;
-mod passing;
 pub(crate) mod pieces;
-mod request_fault;
-mod sentences;
+pub(crate) mod reading;
 pub(crate) mod shown;
 mod source;
-pub(crate) mod standing;
+mod taking;
 pub(crate) mod touching;
 pub(crate) mod transfers;
 
-ghost use Rattle.std.specs.Prelude.{◌≡◌, ℕ, List, [], ◌++◌, OnOk};
+ghost use Rattle.std.specs.Prelude.{◌≡◌, ℕ, List, [], ◌++◌, true, OnOk};
 ghost use Rattle.std.specs.Result.{IsOkUnless};
 ghost use Rattle.money_core.specs.declared.cause.Cause.{Cause as Reason};
 ghost use Rattle.money_core.specs.declared.cause.Fault.{Fault as FirstFault};
 ghost use Rattle.book_core.specs.declared.refusal.Failure.{Failure};
 ghost use Rattle.book_core.specs.declared.refusal.Refusal.TheVariants.{Plain, Text, ClaimFailed};
 ghost use Rattle.journal_format.specs.declared.txn.Located.{Located as Placed};
-ghost use Rattle.treasury_told.specs.declared.explain.at_fault.Bar.{Bar as Hindrance};
 ghost use Rattle.journal_format.specs.Pieces.{Reads};
-ghost use Rattle.treasury_told.specs.AtFault.{cause_of_bar};
+ghost use Rattle.treasury_state.specs.Federation.{has_branch};
 ghost use Rattle.treasury_told.specs.Detail.{IsBare};
 ghost use Rattle.treasury_told.specs.ExactProduct.{inexact_text};
-ghost use Rattle.treasury_told.specs.Failure.{TellsFailure};
+ghost use Rattle.treasury_told.specs.Failure.{judged_branch, text_asked, told_failure};
 ghost use Rattle.treasury_told.specs.LeftOver.{left_over_text};
-ghost use Rattle.treasury_told.specs.Passing.{IsPassed, IsPassedText, TellsPassed};
 ghost use Rattle.treasury_told.specs.Pieces.{origin_text, sentence_line};
-ghost use Rattle.treasury_told.specs.Refused.{IsBarred, IsBarredText, TellsRefused};
+ghost use Rattle.treasury_told.specs.Refused.{IsRefused, TellsRefused};
 ghost use Rattle.treasury_told.specs.Uneven.{uneven_text, IsReadImport};
 
-use crate::explain::at_fault::{Bar, bar_of, cause_of, find_barred, push_barred};
+use crate::explain::at_fault::{find_stop, is_of_transaction, push_stopped};
 use crate::explain::closing::push_closing;
 use crate::explain::failure::explain_failure;
 use crate::explain::held::push_held;
 use crate::explain::hints::push_fault_hint;
 use crate::explain::lines::push_source;
-use crate::explain::passing::{find_passing, push_passing};
-pub use crate::explain::request_fault::{explain_request, push_fault_of, push_request_fault};
-pub use crate::explain::sentences::sentence;
 pub use crate::explain::shown::{push_line, push_named, push_number, push_shown};
-use crate::explain::standing::records_of;
 use book_core::{Ledger, Refusal};
 use money_core::{Cause, Fault, Styles};
 use std::alloc::Global;
 use treasury_core::State;
+use treasury_messages::sentence;
 use treasury_requests::Request;
+use treasury_state::find_branch;
 
 /// Appends the first line of an explanation: where it comes from, if that is known, and the refusal's sentence.
 #[tactic(auto, unfolding(crate::specs::Pieces::sentence_line))]
@@ -167,57 +161,32 @@ fn explain_plain<L: Ledger>(
 
 /// Appends what is said of a refusal of an import by one of its transactions; where that is not found, what is said of
 /// any refusal.
-fn explain_barred<L: Ledger>(
+fn explain_refused<L: Ledger>(
     alloc: Global,
     state: &State<L>,
     request: &Request,
     name: &str,
     source: &str,
     journal: &[u8],
-    bar: Bar,
+    cause: Cause,
     out: &mut Vec<u8>,
 ) -> Result<(), Cause>
-    ensures told { IsBarredText state.now name.now journal.now bar → OnOk result
-        (TellsRefused state.now request.now name.now source.now journal.now bar out.old.items out.new.items) }
+    ensures told { (list : List Placed) → IsRefused state.now request.now name.now journal.now list cause
+        → OnOk result (TellsRefused state.now request.now name.now source.now journal.now list cause
+        out.old.items out.new.items) }
 {
-    match find_barred(alloc, state, name, journal, bar) {
-        Ok(Some(barred)) => {
-            let records = records_of(state, name);
-            push_barred(
-                alloc, state, request, source, journal, records, &barred, bar, out,
-            )
-        }
-        Ok(None) => explain_plain(alloc, state, request, cause_of(bar), out),
-        Err(cause) => {
-            explain_plain(alloc, state, request, cause_of(bar), out)?;
-            Err(cause)
-        }
-    }
-}
-
-/// Appends what is said of an import with which the turnover of a commodity exceeds its limit; where that is not found,
-/// what is said of any refusal.
-fn explain_limit<L: Ledger>(
-    alloc: Global,
-    state: &State<L>,
-    request: &Request,
-    name: &str,
-    source: &str,
-    journal: &[u8],
-    out: &mut Vec<u8>,
-) -> Result<(), Cause>
-    ensures told { IsPassedText state.now name.now journal.now → OnOk result
-        (TellsPassed state.now name.now source.now journal.now out.old.items out.new.items) }
-{
-    match find_passing(alloc, state, name, journal) {
-        Ok(Some(passing)) => {
-            let styles = state.styles();
-            push_passing(alloc, styles, name, source, journal, &passing, out)
-        }
-        Ok(None) => explain_plain(alloc, state, request, Cause::Limit, out),
-        Err(cause) => {
-            explain_plain(alloc, state, request, Cause::Limit, out)?;
-            Err(cause)
+    state.is_good();
+    let Some(branch) = find_branch(state, name) else {
+        return explain_plain(alloc, state, request, cause, out);
+    };
+    match find_stop(alloc, state.styles(), branch, journal) {
+        Ok(Some(stopped)) => push_stopped(
+            alloc, state, request, branch, source, journal, &stopped, cause, out,
+        ),
+        Ok(None) => explain_plain(alloc, state, request, cause, out),
+        Err(missing) => {
+            explain_plain(alloc, state, request, cause, out)?;
+            Err(missing)
         }
     }
 }
@@ -231,25 +200,21 @@ fn explain_cause<L: Ledger>(
     cause: Cause,
     out: &mut Vec<u8>,
 ) -> Result<(), Cause>
-    ensures barred { (bar : Hindrance) (name journal : List ℕ) → IsBarred state.now request.now name journal bar
-        → cause ≡ cause_of_bar bar → OnOk result
-        (TellsRefused state.now request.now name source.now journal bar out.old.items out.new.items) }
-    ensures passed { (name journal : List ℕ) → IsPassed state.now request.now name journal → cause ≡ Cause.Limit
-        → OnOk result (TellsPassed state.now name source.now journal out.old.items out.new.items) }
+    ensures refused { (name journal : List ℕ) (list : List Placed)
+        → IsRefused state.now request.now name journal list cause → OnOk result
+        (TellsRefused state.now request.now name source.now journal list cause out.old.items out.new.items) }
     ensures bare { IsBare request.now cause → OnOk result
         (out.new.items ≡ out.old.items ++ sentence_line [] cause) }
 {
     let Request::Import { branch, journal } = request else {
         return explain_plain(alloc, state, request, cause, out);
     };
-    let name = branch.as_str();
-    let journal = journal.as_bytes();
-    if let Cause::Limit = cause {
-        return explain_limit(alloc, state, request, name, source, journal, out);
-    }
-    match bar_of(cause) {
-        Some(bar) => explain_barred(alloc, state, request, name, source, journal, bar, out),
-        None => explain_plain(alloc, state, request, cause, out),
+    if is_of_transaction(cause) {
+        let name = branch.as_str();
+        let journal = journal.as_bytes();
+        explain_refused(alloc, state, request, name, source, journal, cause, out)
+    } else {
+        explain_plain(alloc, state, request, cause, out)
     }
 }
 
@@ -264,17 +229,18 @@ pub fn explain<L: Ledger>(
     refusal: &Refusal,
     out: &mut Vec<u8>,
 ) -> Result<(), Cause>
-    // Of a failed assertion all that is said is told by the failure.
-    ensures failed { (failure : Failure) → refusal.now ≡ ClaimFailed failure → OnOk result
-        (TellsFailure state.now request.now source.now failure out.old.items out.new.items) }
-    // Of an import that is refused by one of its transactions, it is that transaction of which all is said.
-    ensures barred { (bar : Hindrance) (name journal : List ℕ) → IsBarred state.now request.now name journal bar
-        → refusal.now ≡ Plain (cause_of_bar bar) → OnOk result
-        (TellsRefused state.now request.now name source.now journal bar out.old.items out.new.items) }
-    // Of an import that is refused since a turnover exceeds its limit, it is the transaction with which it first does.
-    ensures passed { (name journal : List ℕ) → IsPassed state.now request.now name journal
-        → refusal.now ≡ Plain Cause.Limit → OnOk result
-        (TellsPassed state.now name source.now journal out.old.items out.new.items) }
+    // Of a failed assertion all that is said is told by the failure: the held entry or the new transaction that it
+    // names, what is asserted and found, and which new ones touch the account. A request without a text has an empty
+    // one.
+    ensures failed { (failure : Failure) (list : List Placed) → refusal.now ≡ ClaimFailed failure
+        → has_branch state.now (judged_branch request.now) ≡ true
+        → Reads state.now.styles (text_asked request.now) list → OnOk result
+        (out.new.items ≡ out.old.items ++ told_failure state.now request.now source.now list failure) }
+    // Of an import that is refused by one of its transactions, it is the one at the place where the decision stops of
+    // which all is said.
+    ensures refused { (name journal : List ℕ) (list : List Placed) (cause : Reason) → refusal.now ≡ Plain cause
+        → IsRefused state.now request.now name journal list cause → OnOk result
+        (TellsRefused state.now request.now name source.now journal list cause out.old.items out.new.items) }
     // Of an import that is refused since a cost is not exact, it is the exact product of the first such cost of the
     // transaction on the line of the fault.
     ensures inexact { (fault : FirstFault) (name journal : List ℕ) (list : List Placed) → refusal.now ≡ Text fault

@@ -2,12 +2,10 @@
 //! undone.
 
 mod accounts;
-mod again;
 mod amounts;
 mod dated;
 mod days;
 mod edited;
-mod heads;
 mod import;
 mod listed;
 mod odd;
@@ -20,16 +18,15 @@ ghost use Rattle.std.specs.Option.{option_map};
 ghost use Rattle.std.specs.Result.{IsOkUnless};
 ghost use Rattle.money_core.specs.declared.day.Day.{Day as When};
 ghost use Rattle.journal_format.specs.declared.txn.Located.{Located};
+ghost use Rattle.journal_format.specs.Pieces.{Reads};
 ghost use Rattle.treasury_state.specs.Federation.{has_branch, records_of, entries};
-ghost use Rattle.treasury_state.specs.Mark.{HaveOwnMarks};
 ghost use Rattle.treasury_state.specs.Seen.{branch_of};
 ghost use Rattle.treasury_told.specs.declared.notes.BranchBefore.{BranchBefore as HeldOfBranch};
-ghost use Rattle.treasury_told.specs.Added.{IsTaken, IsNoneRefused, IsEntered};
 ghost use Rattle.treasury_told.specs.OtherBranch.{AreAllPrintable};
 ghost use Rattle.treasury_told.specs.Imported.{imported};
-ghost use Rattle.treasury_told.specs.FirstNotes.{BeginsWithNotes};
-ghost use Rattle.treasury_told.specs.ImportNotes.{is_grown, import_first, import_notes, entered_import, entered_notes};
+ghost use Rattle.treasury_told.specs.ImportNotes.{is_grown, import_notes, entered_notes};
 ghost use Rattle.treasury_told.specs.ImportNotes.{IsEnteredAhead, import_ahead};
+ghost use Rattle.treasury_told.specs.Uneven.{IsReadImport};
 ghost use Rattle.treasury_told.specs.NamedAccount.{named_account_if, unknown_notes};
 ghost use Rattle.treasury_requests.specs.Request.{branch_asked};
 ghost use Rattle.treasury_told.specs.Failure.{journal_asked};
@@ -39,7 +36,6 @@ ghost use Rattle.treasury_told.specs.RequestNotes.{closing_notes, late_if, odd_i
 ghost use Rattle.treasury_told.specs.RequestNotes.{added_notes, notes_on, notes_if_there, commodity_notes};
 ghost use Rattle.treasury_told.specs.RequestNotes.{request_notes, notes_ahead};
 
-use crate::explain::standing::records_of;
 use crate::explain::transfers::transfer_of;
 use crate::notes::accounts::{find_unknown, push_account, push_unknown};
 use crate::notes::amounts::push_odd_amount;
@@ -415,15 +411,8 @@ fn push_import<L: Ledger>(
     new: &[Record],
     out: &mut Vec<u8>,
 ) -> Result<(), Cause>
-    ensures first { (list : List Located) → AreAllPrintable state.now.styles held.now
-        → AreAllPrintable state.now.styles new.now → IsTaken state.now.styles held.now journal.now new.now list
-        → OnOk result (BeginsWithNotes (import_first state.now
-        (imported source.now journal.now name.now held.now new.now before.is_dry_run) list)
-        out.old.items out.new.items) }
-    ensures all { (list : List Located) (lock : Option When) → AreAllPrintable state.now.styles held.now
-        → AreAllPrintable state.now.styles new.now → HaveOwnMarks held.now
-        → IsTaken state.now.styles held.now journal.now new.now list
-        → IsNoneRefused state.now.styles lock held.now list → OnOk result (out.new.items
+    ensures { (list : List Located) → AreAllPrintable state.now.styles new.now
+        → Reads state.now.styles journal.now list → OnOk result (out.new.items
         ≡ out.old.items ++ import_notes state.now
         (imported source.now journal.now name.now held.now new.now before.is_dry_run)
         (is_grown before (L.book branch.now.ledger)) list) }
@@ -449,22 +438,14 @@ fn push_import_notes<L: Ledger>(
     before: BranchBefore,
     out: &mut Vec<u8>,
 ) -> Result<(), Cause>
-    ensures first { (list : List Located)
-        → IsTaken state.now.styles (take before.entries (records_of state.now name.now)) journal.now
-        (drop before.entries (records_of state.now name.now)) list → OnOk result
-        (BeginsWithNotes (import_first state.now (entered_import state.now name.now source.now journal.now before) list)
-        out.old.items out.new.items) }
-    ensures entered { (list : List Located) (lock : Option When)
-        → IsTaken state.now.styles (take before.entries (records_of state.now name.now)) journal.now
-        (drop before.entries (records_of state.now name.now)) list
-        → IsNoneRefused state.now.styles lock (take before.entries (records_of state.now name.now)) list
-        → OnOk result (out.new.items
+    ensures { (list : List Located) → Reads state.now.styles journal.now list → OnOk result (out.new.items
         ≡ out.old.items ++ entered_notes state.now name.now source.now journal.now before list) }
 {
     state.is_good();
     match find_branch(state, name) {
         Some(branch) => {
-            let (held, new) = parted(records_of(state, name), before.entries);
+            let records = branch.records.items();
+            let (held, new) = parted(records, before.entries);
             push_import(
                 alloc, state, branch, name, journal, source, before, held, new, out,
             )
@@ -537,12 +518,10 @@ fn push_import_ahead<L: Ledger>(
     new: &[Record],
     out: &mut Vec<u8>,
 ) -> Result<(), Cause>
-    ensures entered { (list : List Located) (lock : Option When) → has_branch state.now name.now ≡ true
-        → IsTaken state.now.styles (records_of state.now name.now) journal.now new.now list
-        → IsNoneRefused state.now.styles lock (records_of state.now name.now) list → OnOk result
-        (out.new.items ≡ out.old.items ++ import_ahead state.now name.now source.now journal.now new.now list) }
+    ensures { (list : List Located) → has_branch state.now name.now ≡ true → AreAllPrintable state.now.styles new.now
+        → Reads state.now.styles journal.now list → OnOk result (out.new.items
+        ≡ out.old.items ++ import_ahead state.now name.now source.now journal.now new.now list) }
 {
-    state.is_good();
     match find_branch(state, name) {
         Some(branch) => {
             let records = branch.records.items();
@@ -569,9 +548,8 @@ pub(crate) fn push_notes_ahead<L: Ledger>(
     new: &[Record],
     out: &mut Vec<u8>,
 ) -> Result<(), Cause>
-    ensures entered { (name journal : List ℕ) (list : List Located) (lock : Option When)
-        → IsEnteredAhead state.now request.now name journal new.now list
-        → IsNoneRefused state.now.styles lock (records_of state.now name) list → OnOk result
+    ensures entered { (name journal : List ℕ) (list : List Located)
+        → IsEnteredAhead state.now request.now name journal new.now list → OnOk result
         (out.new.items ≡ out.old.items ++ import_ahead state.now name source.now journal new.now list) }
     ensures others { journal_asked request.now ≡ None → OnOk result
         (out.new.items ≡ out.old.items ++ notes_ahead state.now request.now new.now) }
@@ -594,14 +572,8 @@ fn push_answered<L: Ledger>(
     before: BranchBefore,
     out: &mut Vec<u8>,
 ) -> Result<(), Cause>
-    ensures first { (name journal : List ℕ) (list : List Located)
-        → IsEntered state.now request.now name journal before.entries list → OnOk result
-        (BeginsWithNotes (import_first state.now (entered_import state.now name source.now journal before) list)
-        out.old.items out.new.items) }
-    ensures entered { (name journal : List ℕ) (list : List Located) (lock : Option When)
-        → IsEntered state.now request.now name journal before.entries list
-        → IsNoneRefused state.now.styles lock (take before.entries (records_of state.now name)) list
-        → OnOk result (out.new.items
+    ensures entered { (name journal : List ℕ) (list : List Located)
+        → IsReadImport state.now.styles request.now name journal list → OnOk result (out.new.items
         ≡ out.old.items ++ entered_notes state.now name source.now journal before list) }
     ensures others { journal_asked request.now ≡ None → OnOk result (out.new.items ≡ out.old.items
         ++ notes_if_there state.now request.now before (branch_in state.now (branch_asked request.now))) }
@@ -617,6 +589,7 @@ fn push_answered<L: Ledger>(
 
 /// Appends the note of the sample of a commodity, if it was declared: so many were known before.
 fn push_sample<L: Ledger>(
+    alloc: Global,
     state: &State<L>,
     sample: &str,
     known: usize,
@@ -627,7 +600,7 @@ fn push_sample<L: Ledger>(
     ensures memory { IsOkUnless result Cause.OutOfMemory }
 {
     if state.styles().len() > known {
-        push_sample_note(sample, out)
+        push_sample_note(alloc, sample, out)
     } else {
         Ok(())
     }
@@ -643,16 +616,9 @@ pub fn push_notes<L: Ledger>(
     before: HeldBefore,
     out: &mut Vec<u8>,
 ) -> Result<(), Cause>
-    // Those of an import begin with those of another branch, of far days, and of odd amounts.
-    ensures first { (held : HeldOfBranch) (name journal : List ℕ) (list : List Located) → before.branch ≡ Some held
-        → IsEntered state.now request.now name journal held.entries list → OnOk result
-        (BeginsWithNotes (import_first state.now (entered_import state.now name source.now journal held) list)
-        out.old.items out.new.items) }
-    // They are all told where nothing of the journal was refused.
-    ensures entered { (held : HeldOfBranch) (name journal : List ℕ) (list : List Located) (lock : Option When)
-        → before.branch ≡ Some held → IsEntered state.now request.now name journal held.entries list
-        → IsNoneRefused state.now.styles lock (take held.entries (records_of state.now name)) list
-        → OnOk result (out.new.items
+    // Those of an import of a journal are all told.
+    ensures entered { (held : HeldOfBranch) (name journal : List ℕ) (list : List Located) → before.branch ≡ Some held
+        → IsReadImport state.now.styles request.now name journal list → OnOk result (out.new.items
         ≡ out.old.items ++ entered_notes state.now name source.now journal held list) }
     // Those of any other request are all told.
     ensures others { journal_asked request.now ≡ None → OnOk result
@@ -660,6 +626,7 @@ pub fn push_notes<L: Ledger>(
 {
     match request {
         Request::Commodity { sample } => push_sample(
+            alloc,
             state,
             sample.as_str(),
             before.commodities,

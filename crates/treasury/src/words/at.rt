@@ -28,10 +28,10 @@ use terminal_text::{push_line, push_shown};
 use treasury_api::{NOTHING_ENTERED, write_whole};
 use treasury_client::{Form, Heard, as_text, body_of, call_of, hear_command, hear_report};
 use treasury_files::read_journal;
+use treasury_messages::sentence;
 use treasury_requests::{Spelled, Terms, request_of};
 use treasury_spelling::{fault_of, form_of_word, port_of, says_no_count, terms_of, value_of};
 use treasury_told::ended::drop_cut_line;
-use treasury_told::explain::sentence;
 
 /// Services listen on this machine alone.
 const HOST: &str = "127.0.0.1";

@@ -1,22 +1,17 @@
 //! What a run says beside its answers, if it is asked to explain them.
 
+ghost use Rattle.std.specs.Prelude.{◌≡◌};
+ghost use Rattle.treasury_messages.specs.Unasked.{IsToldUnasked};
+
 use book_core::{DayLedger, Refusal};
 use money_core::Cause;
 use std::alloc::Global;
 use treasury_api::{Listener, said_beside};
 use treasury_core::State;
+use treasury_messages::{sentence_text, unasked_text};
 use treasury_requests::Spelled;
 use treasury_told::ended::ended_part;
-use treasury_told::explain::{explain_request, sentence};
 use treasury_told::notes::{HeldBefore, held_before};
-
-/// Appends the sentence of a cause.
-fn push_sentence(cause: Cause, out: &mut Vec<u8>) -> Result<(), Cause> {
-    out.extend_from_slice(b"treasury: ")?;
-    out.extend_from_slice(sentence(cause).as_bytes())?;
-    out.extend_from_slice(b"\n")?;
-    Ok(())
-}
 
 /// Explains the answers of a run on standard error: each as a command over a file does, below the number of its line.
 #[derive(Drop)]
@@ -61,13 +56,14 @@ impl Listener for Explainer<'_> {
         self.said = said_beside(alloc, state, request, self.held, refusal);
     }
 
-    fn tell_unasked(&mut self, alloc: Global, line: &[u8], cause: Cause) {
-        let mut said = Vec::new(alloc);
-        let _ = match cause {
-            Cause::Request => explain_request(alloc, line, &mut said),
-            _ => push_sentence(cause, &mut said),
+    fn tell_unasked(&mut self, alloc: Global, line: &[u8], cause: Cause)
+        // Of bytes that are no request, their first fault is told.
+        ensures request { cause ≡ Cause.Request → IsToldUnasked line.now self.new.said.items }
+    {
+        self.said = match cause {
+            Cause::Request => unasked_text(alloc, line),
+            _ => sentence_text(alloc, cause),
         };
-        self.said = said;
     }
 
     fn end_line(&mut self) {

@@ -1,6 +1,13 @@
 //! How long a client of `serve` is waited for: for its first byte, for its whole request, until it has taken the reply,
 //! and after that. And how long a client waits for a service: as long for a part of the call that is taken, and longer
 //! for the reply, as other clients come first.
+//!
+//! A connection has a time as a whole, which grows with the bytes that came: a time for each read or write would let a
+//! client that sends a byte now and then stop all others for ever. 3 seconds are enough for a first byte, since a
+//! client that is alive sends it at once; browsers open connections in advance and say nothing on them, which is no
+//! fault. Each 64 KiB of a reply has a time of its own as well, because the system takes some megabytes for a client
+//! that takes nothing. After a reply, what still comes is read for a second: a connection that is closed with bytes
+//! unread is reset, and the client may lose the reply.
 
 use std::io::{self, ErrorKind, Read, Write};
 use std::net::{Shutdown, TcpStream};

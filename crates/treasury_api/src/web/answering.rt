@@ -1,6 +1,6 @@
 //! What a treasury replies to a call.
 
-ghost use Rattle.std.specs.Prelude.{◌≡◌, ◌≤◌, [], Ok, Err, IfOk, OnErr, codes, vec_capacity};
+ghost use Rattle.std.specs.Prelude.{◌≡◌, ◌≤◌, [], Ok, Err, IfOk, OnErr, codes, option_map, vec_capacity};
 ghost use Rattle.std.specs.Result.{IsOkUnless};
 ghost use Rattle.book_core.specs.declared.refusal.Refusal.{Refusal as Refused};
 ghost use Rattle.treasury_requests.specs.Request.{HasDayNumbers, in_earnest};
@@ -8,7 +8,7 @@ ghost use Rattle.treasury_api.specs.Answer.{answer_text};
 ghost use Rattle.treasury_api.specs.OneRequest.{RepliesAs, RepliesOn};
 ghost use Rattle.treasury_api.specs.WebReply.{status_of, form_of_reply};
 ghost use Rattle.treasury_api.specs.Web.{IsRefusal44, IsBodyIn, AnswersOn};
-ghost use Rattle.treasury_api.specs.WebServing.{code_of, IsSought, sought_of, SeeksDays, LeavesReplied};
+ghost use Rattle.treasury_api.specs.WebServing.{IsUnaskedJson, code_of, IsSought, sought_of, SeeksDays, LeavesReplied};
 
 use crate::answering::answer;
 use crate::answers::{MOST_PLAIN, answer_line};
@@ -195,6 +195,7 @@ fn no_request_in_json(alloc: Global, body: Option<&[u8]>, room: Vec<u8>) -> Repl
     ensures status { code_of result.status ≡ 400 }
     ensures form { result.form ≡ Form.Json }
     ensures body { IsRefusal44 Form.Json result.body.items }
+    ensures told { IsUnaskedJson (option_map (λ b. b.now) body.entry) result.body.items }
 {
     let told = told_unasked(alloc, body);
     Reply {

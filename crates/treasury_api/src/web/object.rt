@@ -1,13 +1,13 @@
 //! Replies in JSON: the object of an answer, if it is none of a report.
 
-ghost use Rattle.std.specs.Prelude.{◌≡◌, ◌≤◌, ◌+◌, ◌-◌, ◌++◌, [], true, false, length, take, vec_capacity, OnOk, OnErr};
-ghost use Rattle.std.specs.Prelude.{IsOk, IsTrue, IfSome, None, codes, decimal, option_map};
+ghost use Rattle.std.specs.Prelude.{◌≡◌, ◌⊎◌, ◌≤◌, ◌+◌, ◌-◌, ◌++◌, [], true, false, length, take, vec_capacity};
+ghost use Rattle.std.specs.Prelude.{OnOk, OnErr, IsOk, IsTrue, IfSome, None, codes, decimal, option_map};
 ghost use Rattle.std.specs.Str.{is_utf8};
 ghost use Rattle.json_text.specs.JsonText.{object_text};
 ghost use Rattle.json_text.specs.Members.{members_of};
 ghost use Rattle.treasury_requests.specs.Request.{HasDayNumbers, is_report};
 ghost use Rattle.treasury_api.specs.WebServing.{done_json, refusal_json, refused_json, IsJsonDone, IsJsonRefused};
-ghost use Rattle.treasury_api.specs.WebServing.{IsJsonRefusal, entries_told};
+ghost use Rattle.treasury_api.specs.WebServing.{IsJsonRefusal, IsJsonTold, IsToldOfBody, entries_told};
 
 use crate::asking::entries_asked;
 use crate::running::Line;
@@ -19,9 +19,9 @@ use money_core::Cause;
 use sqlite::Alter;
 use std::alloc::{AllocError, Global};
 use treasury_core::State;
+use treasury_messages::{sentence, sentence_text, unasked_text};
 use treasury_requests::Spelled;
 use treasury_store::Treasury;
-use treasury_told::explain::{explain_request, sentence};
 use treasury_told::notes::HeldBefore;
 
 /// The object of a plain answer, of which nothing is told or noted, has at most that many bytes.
@@ -32,7 +32,8 @@ const MOST_LINE: usize = 63;
 
 /// The text, where it is UTF-8; none, where it is not.
 fn utf8_of(text: &[u8]) -> &[u8]
-    ensures { is_utf8 result.now ≡ true }
+    ensures utf8 { is_utf8 result.now ≡ true }
+    ensures same { (result.now ≡ text.now) ⊎ (result.now ≡ []) }
 {
     match str::from_utf8(text) {
         Ok(text) => text.as_bytes(),
@@ -248,6 +249,7 @@ fn push_refused_at_least(
 ) -> Result<(), AllocError>
     requires { out.old.items ≡ [] }
     ensures ok { OnOk result (IsJsonRefused line.now cause entries out.new.items) }
+    ensures told { OnOk result (IsJsonTold line.now cause told.now entries out.new.items) }
     ensures err { OnErr result (out.new.items ≡ []) }
     ensures room { length line.now ≤ MOST_LINE → MOST_JSON ≤ vec_capacity out.old → IsOk result }
     ensures capacity { vec_capacity out.old ≤ vec_capacity out.new }
@@ -258,12 +260,14 @@ fn push_refused_at_least(
     }
 }
 
-/// The object of a plain refusal, in room for it, by its line, of at most 63 bytes, its cause, and what is told.
+/// The object of a plain refusal, in room for it, by its line, of at most 63 bytes, its cause, and what is told; or
+/// nothing is told, where memory is refused for it.
 pub fn refuse_plain_in_json(line: &[u8], cause: Cause, told: &[u8], room: Vec<u8>) -> Vec<u8>
     requires line { length line.now ≤ MOST_LINE }
     requires empty { room.items ≡ [] }
     requires room { MOST_JSON ≤ vec_capacity room }
-    ensures { IsJsonRefused line.now cause None result.items }
+    ensures refused { IsJsonRefused line.now cause None result.items }
+    ensures told { IsJsonTold line.now cause told.now None result.items }
 {
     let mut body = room;
     match push_refused_at_least(line, cause, told, None, &mut body) {
@@ -299,19 +303,11 @@ pub fn refuse_in_json(line: &Line, told: &[u8], entries: Option<usize>, room: Ve
 }
 
 /// What is told of a call that is no request; of a body, why it spells none.
-pub fn told_unasked(alloc: Global, body: Option<&[u8]>) -> Vec<u8> {
-    let mut told = Vec::new(alloc);
-    let _ = match body {
-        Some(body) => explain_request(alloc, body, &mut told),
-        None => push_sentence(&mut told),
-    };
-    told
-}
-
-/// Appends the sentence of 44 alone.
-fn push_sentence(out: &mut Vec<u8>) -> Result<(), Cause> {
-    out.extend_from_slice(b"treasury: ")?;
-    out.extend_from_slice(sentence(Cause::Request).as_bytes())?;
-    out.extend_from_slice(b"\n")?;
-    Ok(())
+pub fn told_unasked(alloc: Global, body: Option<&[u8]>) -> Vec<u8>
+    ensures { IsToldOfBody (option_map (λ b. b.now) body.entry) result.items }
+{
+    match body {
+        Some(body) => unasked_text(alloc, body),
+        None => sentence_text(alloc, Cause::Request),
+    }
 }

@@ -1,4 +1,8 @@
 //! A connection, served.
+//!
+//! There is one call to a connection, so there is no loop to prove apart from what answers it. Memory for the head of
+//! a reply and a short line is reserved before anything is read, and nothing grows after a commit: what was done is
+//! always reported. If memory runs out before a call is understood, the connection ends without a reply.
 
 ghost use Rattle.treasury_api.specs.Web.{ServesOne};
 

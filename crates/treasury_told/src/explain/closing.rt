@@ -6,7 +6,6 @@ ghost use Rattle.treasury_told.specs.Detail.{has_closing_detail};
 use crate::explain::held::{ACCOUNT_FORM, TRANSFERS_ONLY};
 use crate::explain::pieces::push_header;
 use crate::explain::shown::{push_line, push_named, push_number, push_shown};
-use crate::explain::standing::branch_named;
 use book_core::Ledger;
 use journal_format::Txn;
 use journal_lines::{is_account, is_reserved};
@@ -14,6 +13,7 @@ use money_core::{Cause, Day};
 use std::alloc::Global;
 use treasury_core::{Branch, State};
 use treasury_requests::Request;
+use treasury_state::find_branch;
 
 /// The account that gets what closed accounts held, where none is named.
 const RETAINED_EARNINGS: &str = "equity:retained earnings";
@@ -151,7 +151,7 @@ pub fn push_closing<L: Ledger>(
             Some(list) => push_list(list, out),
             None => Ok(()),
         },
-        Cause::MarkClash => match branch_named(state, branch.as_str()) {
+        Cause::MarkClash => match find_branch(state, branch.as_str()) {
             Some(branch) => push_closed(alloc, branch, *day, out),
             None => Ok(()),
         },

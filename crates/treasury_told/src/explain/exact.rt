@@ -12,12 +12,12 @@ ghost use Rattle.money_core.specs.Printed.{places};
 ghost use Rattle.journal_format.specs.Printable.{is_posting};
 ghost use Rattle.treasury_told.specs.ExactProduct.{without_zeros, exact_number, shown_symbol, exact_amount};
 ghost use Rattle.treasury_told.specs.ExactProduct.{product_line};
-ghost use Rattle.journal_balance.specs.Legs.{cost_fault_of};
 ghost use Rattle.treasury_told.specs.ExactProduct.{product_text, product_at, is_not_exact, is_inexact, inexact_text};
 
 use crate::explain::shown::push_shown;
+use journal_balance::cost_fault_of;
 use journal_format::Posting;
-use money_core::{Cause, Mark, Price, Style, Styles, Unit, cost_of, is_bare};
+use money_core::{Cause, Mark, Price, Style, Styles, Unit, is_bare};
 use std::alloc::Global;
 
 /// The greatest number of decimals of a product: those of an amount, and those of its unit cost.
@@ -190,20 +190,6 @@ fn push_at(
             style,
             out,
         ),
-    }
-}
-
-/// The fault of a posting's cost, if it has one.
-fn cost_fault_of(posting: &Posting, styles: &Styles) -> Option<Cause>
-    requires { is_posting styles.now posting.now ≡ true }
-    ensures { result ≡ cost_fault_of styles.now posting.now.amount posting.now.price }
-{
-    let (Some((unit, qty)), Some(price)) = (posting.amount, posting.price) else {
-        return None;
-    };
-    match cost_of(qty, unit, &price, styles) {
-        Ok(_) => None,
-        Err(cause) => Some(cause),
     }
 }
 

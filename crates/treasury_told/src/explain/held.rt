@@ -9,13 +9,13 @@ ghost use Rattle.treasury_told.specs.Lock.{close_hint, locked_line, lock_text};
 use crate::explain::hints::{push_amount_form, push_sample, push_sample_form, push_samples};
 use crate::explain::pieces::push_day;
 use crate::explain::shown::{push_line, push_named, push_number, push_shown};
-use crate::explain::standing::{branch_named, lock_of};
 use crate::explain::transfers::{part_of, push_id, push_transfer_of};
 use book_core::{Ledger, MAX_ENTRIES};
 use money_core::{Cause, Day, Text, read_style};
 use std::alloc::Global;
-use treasury_core::State;
+use treasury_core::{State, lock_of};
 use treasury_requests::Request;
+use treasury_state::find_branch;
 
 /// The forms of a branch's name, and of an account.
 const NAME_FORM: &[u8] =
@@ -142,7 +142,7 @@ fn push_count<L: Ledger>(
             let Some(name) = request.branch() else {
                 return Ok(());
             };
-            let Some(branch) = branch_named(state, name.as_str()) else {
+            let Some(branch) = find_branch(state, name.as_str()) else {
                 return Ok(());
             };
             out.extend_from_slice(b"  a branch has at most ")?;

@@ -190,11 +190,6 @@ fn push_product(
     }
 }
 
-/// Appends which limit a text exceeds.
-fn push_limit(journal: &[u8], line: usize, out: &mut Vec<u8>) -> Result<(), Cause> {
-    push_line(limit_at(journal, line).as_bytes(), out)
-}
-
 /// Appends what a journal should have at the line of a fault of its form.
 fn push_form(
     alloc: Global,
@@ -205,7 +200,7 @@ fn push_form(
 ) -> Result<(), Cause> {
     match fault.cause {
         Cause::Utf8 => push_line(b"save the file as UTF-8, without control characters", out),
-        Cause::TooLong => push_limit(journal, fault.line, out),
+        Cause::TooLong => push_line(limit_at(journal, fault.line).as_bytes(), out),
         Cause::Date => push_line(DATE_FORM, out),
         Cause::Directive => push_directive(styles, journal, fault.line, out),
         Cause::StrayLine => push_line(

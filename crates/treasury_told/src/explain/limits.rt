@@ -19,10 +19,7 @@ const MAX_POSTINGS: usize = 1_000;
 
 /// Whether the comment of the line is too long.
 fn has_long_comment(line: &[u8]) -> bool {
-    match comment_of(line) {
-        Some(comment) => comment.len() > MAX_COMMENT,
-        None => false,
-    }
+    comment_of(line).is_some_and(|comment| comment.len() > MAX_COMMENT)
 }
 
 /// What follows the date of a header, and its status.
@@ -38,10 +35,7 @@ fn behind_date(line: &[u8]) -> &[u8] {
 /// Whether the code of a header is too long.
 fn has_long_code(line: &[u8]) -> bool {
     match behind_date(line) {
-        [b'(', code @ ..] => match find(code, b')') {
-            Some(end) => end > MAX_CODE,
-            None => false,
-        },
+        [b'(', code @ ..] => find(code, b')').is_some_and(|end| end > MAX_CODE),
         _ => false,
     }
 }

@@ -1,12 +1,12 @@
 //! The lines of a journal's text, as an explanation shows them.
 
-ghost use Rattle.std.specs.Prelude.{◌≡◌, ◌++◌, ◌≤◌, ◌==◌, false, drop, length, OnOk};
+ghost use Rattle.std.specs.Prelude.{◌≡◌, ◌++◌, drop, length, OnOk};
 ghost use Rattle.std.specs.Option.{option_map};
 ghost use Rattle.std.specs.Result.{IsOkUnless};
 ghost use Rattle.journal_lines.specs.LineKind.{kind_of};
 ghost use Rattle.journal_lines.specs.Lines.{lines};
 ghost use Rattle.journal_format.specs.PostingForm.{claim_sign};
-ghost use Rattle.journal_format.specs.PostingParts.{outside, before_mark, from_mark, kind_at, account_name_of};
+ghost use Rattle.journal_format.specs.PostingParts.{kind_at, account_name_of};
 ghost use Rattle.journal_format.specs.PostingParts.{amount_part_of};
 ghost use Rattle.journal_format.specs.PostingParts.{amount_text_in, price_text_in, claim_in, asserted_in};
 ghost use Rattle.treasury_told.specs.Numbered.{item_of_number};
@@ -15,9 +15,10 @@ ghost use Rattle.treasury_told.specs.OddAmount.{is_inner, is_posting_line};
 
 use crate::explain::pieces::push_behind;
 use crate::explain::shown::push_number;
+use journal_format::cut_at;
 use journal_lines::{
     LineKind, Lines, behind_status, front_of, is_block_end, is_remark, kind, name_end, trim,
-    trim_end, trim_start,
+    trim_start,
 };
 use money_core::Cause;
 
@@ -69,16 +70,7 @@ pub fn push_source(text: &[u8], line: usize, out: &mut Vec<u8>) -> Result<(), Ca
 pub fn is_inner(line: &[u8]) -> bool
     ensures { result ≡ is_inner (kind_of line.now) }
 {
-    match kind(line) {
-        LineKind::Indented => true,
-        LineKind::Blank
-        | LineKind::Comment
-        | LineKind::Block
-        | LineKind::Header
-        | LineKind::Commodity
-        | LineKind::Skipped
-        | LineKind::Unknown => false,
-    }
+    kind(line) == LineKind::Indented
 }
 
 /// Whether the line is that of a posting, inside a transaction.
@@ -111,33 +103,6 @@ pub struct Amounts<'a> {
     pub claim: &'a [u8],
 }
 
-/// Where the byte first stands outside quotes, or the length.
-#[tactic(auto, unfolding(journal_format::specs::PostingParts::outside))]
-fn outside(text: &[u8], mark: u8) -> usize
-    ensures place { result ≡ outside (λ b. b == mark) false text.now }
-    ensures bound { result ≤ length text.now }
-{
-    let mut quoted = false;
-    for (at, byte) in text.iter().enumerate() {
-        if *byte == mark && !quoted {
-            return at;
-        }
-        if *byte == b'"' {
-            quoted = !quoted;
-        }
-    }
-    text.len()
-}
-
-/// What stands before the first such byte outside quotes, without blanks at its end, and what stands from there on.
-fn cut_at(text: &[u8], mark: u8) -> (&[u8], &[u8])
-    ensures before { result.0.now ≡ before_mark mark text.now }
-    ensures from { result.1.now ≡ from_mark mark text.now }
-{
-    let place = outside(text, mark);
-    (trim_end(&text[..place]), &text[place..])
-}
-
 /// What follows the signs of an assertion, however many there are.
 pub fn behind_signs(claim: &[u8]) -> &[u8] {
     for (at, byte) in claim.iter().enumerate() {
@@ -148,26 +113,16 @@ pub fn behind_signs(claim: &[u8]) -> &[u8] {
     &[]
 }
 
-/// How long the sign of an assertion is.
+/// What follows the sign of an assertion, the longest that stands at the front.
 #[tactic(auto, unfolding(journal_format::specs::PostingParts::kind_at))]
-fn sign_len(claim: &[u8]) -> usize
-    ensures { result ≡ length (claim_sign (kind_at claim.now)) }
+fn behind_sign(claim: &[u8]) -> &[u8]
+    ensures { result.now ≡ drop (length (claim_sign (kind_at claim.now))) claim.now }
 {
     match claim {
-        [_, b'=', b'*', ..] => 3,
-        [_, b'=', ..] | [_, b'*', ..] => 2,
-        _ => 1,
-    }
-}
-
-/// What follows so many bytes, or nothing.
-fn behind(text: &[u8], count: usize) -> &[u8]
-    ensures { result.now ≡ drop count text.now }
-{
-    if count <= text.len() {
-        &text[count..]
-    } else {
-        &[]
+        [_, b'=', b'*', rest @ ..] => rest,
+        [_, b'=', rest @ ..] | [_, b'*', rest @ ..] => rest,
+        [_, rest @ ..] => rest,
+        [] => claim,
     }
 }
 
@@ -175,7 +130,7 @@ fn behind(text: &[u8], count: usize) -> &[u8]
 pub fn asserted_in(claim: &[u8]) -> &[u8]
     ensures { result.now ≡ asserted_in claim.now }
 {
-    trim_start(behind(claim, sign_len(claim)))
+    trim_start(behind_sign(claim))
 }
 
 /// The amounts of a posting's line, by what follows the account's name.
@@ -198,7 +153,7 @@ pub fn push_blank_postings(text: &[u8], header: usize, out: &mut Vec<u8>) -> Res
     let mut found = 0usize;
     for (number, bytes) in Lines::new(text) {
         if number > header {
-            if kind(bytes) != LineKind::Indented || found == 2 {
+            if !is_inner(bytes) || found == 2 {
                 return Ok(());
             }
             if is_posting(bytes) && posting_parts(bytes).rest.is_empty() {

@@ -1,6 +1,8 @@
 //! Lines that hledger takes, or that are nearly a posting: a zero without a commodity, a posting that is not indented.
 
-use crate::explain::lines::{amounts_of, behind_signs, is_posting, line_at, posting_parts};
+use crate::explain::lines::{
+    amounts_of, behind_signs, is_inner, is_posting, line_at, posting_parts,
+};
 use journal_lines::{LineKind, Lines, first_word, is_account, kind};
 use money_core::{Styles, Unit, find, read_amount};
 
@@ -19,13 +21,9 @@ fn is_bare_zero(text: &[u8]) -> bool {
 
 /// The commodity of the amount that a text is.
 fn unit_of(styles: &Styles, text: &[u8]) -> Option<Unit> {
-    match str::from_utf8(text) {
-        Ok(text) => match read_amount(text, styles) {
-            Ok((unit, _)) => Some(unit),
-            Err(_) => None,
-        },
-        Err(_) => None,
-    }
+    let text = str::from_utf8(text).ok()?;
+    let (unit, _) = read_amount(text, styles).ok()?;
+    Some(unit)
 }
 
 /// The commodity of a posting's line: that of its amount, or else that of its assertion.
@@ -34,17 +32,14 @@ fn unit_of_line(styles: &Styles, line: &[u8]) -> Option<Unit> {
         return None;
     }
     let amounts = amounts_of(posting_parts(line).rest);
-    match unit_of(styles, amounts.amount) {
-        Some(unit) => Some(unit),
-        None => unit_of(styles, behind_signs(amounts.claim)),
-    }
+    unit_of(styles, amounts.amount).or(unit_of(styles, behind_signs(amounts.claim)))
 }
 
 /// The first commodity in the transaction that has the line of that number.
 fn unit_around(styles: &Styles, text: &[u8], line: usize) -> Option<Unit> {
     let mut found: Option<Unit> = None;
     for (number, bytes) in Lines::new(text) {
-        if kind(bytes) != LineKind::Indented {
+        if !is_inner(bytes) {
             if number > line {
                 return found;
             }
@@ -66,21 +61,16 @@ pub fn zero_unit(styles: &Styles, text: &[u8], line: usize) -> Option<Unit> {
     {
         return None;
     }
-    match unit_of_line(styles, bytes) {
-        Some(unit) => Some(unit),
-        None => match unit_around(styles, text, line) {
-            Some(unit) => Some(unit),
-            None => Some(Unit(0)),
-        },
-    }
+    let unit = unit_of_line(styles, bytes).or(unit_around(styles, text, line));
+    Some(unit.unwrap_or(Unit(0)))
 }
 
 /// Whether the line before that of that number is a header, or a line below one.
 fn is_in_transaction(text: &[u8], line: usize) -> bool {
-    match line_at(text, line.saturating_sub(1)) {
-        Some(before) => matches!(kind(before), LineKind::Header | LineKind::Indented),
-        None => false,
-    }
+    line_at(text, line.saturating_sub(1)).is_some_and(|before| matches!(
+        kind(before),
+        LineKind::Header | LineKind::Indented
+    ))
 }
 
 /// Whether the line of that number is a posting, but for the blank before it: it follows another line of a transaction,

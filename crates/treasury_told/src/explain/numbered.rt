@@ -1,19 +1,11 @@
 //! Entries and legs by their numbers, which are counted from 1.
 
-ghost use Rattle.std.specs.Prelude.{◌≡◌, slice_get};
+ghost use Rattle.std.specs.Prelude.{◌≡◌, ◌++◌, slice_get};
 ghost use Rattle.std.specs.Option.{option_map};
-ghost use Rattle.treasury_told.specs.Numbered.{item_of_number, new_of, view_of, entries_with};
+ghost use Rattle.treasury_told.specs.Numbered.{item_of_number};
 
-use crate::explain::standing::Standing;
 use book_core::{Entry, Leg};
 use treasury_core::Record;
-
-/// An entry of a branch, or one that a text would bring to it.
-#[derive(Clone, Copy)]
-pub enum Numbered<'a> {
-    Held(&'a Record),
-    New(&'a Standing),
-}
 
 /// The record at that place, from 0.
 pub fn record_at(records: &[Record], place: usize) -> Option<&Record>
@@ -32,39 +24,14 @@ fn held_at(records: &[Record], number: usize) -> Option<&Record>
     }
 }
 
-/// The new one of that number among the transactions of a text.
-fn new_at(list: &[Standing], number: usize) -> Option<&Standing>
-    ensures { option_map (λ s. s.now) result ≡ item_of_number (new_of list.now) number }
-{
-    let mut left = number;
-    for standing in list {
-        if standing.is_new() {
-            if left == 1 {
-                return Some(standing);
-            }
-            left = left.saturating_sub(1);
-        }
-    }
-    None
-}
-
-/// The entry of that number: the branch has these records, and the text would bring its new transactions after them.
-pub fn entry_at<'a>(
-    records: &'a [Record],
-    list: &'a [Standing],
-    number: usize,
-) -> Option<Numbered<'a>>
-    ensures { option_map view_of result ≡ item_of_number (entries_with records.now list.now) number }
+/// The entry of that number: the branch has these records, and a text would bring the new ones after them.
+pub fn entry_at<'a>(records: &'a [Record], new: &'a [Record], number: usize) -> Option<&'a Record>
+    ensures { option_map (λ r. r.now) result ≡ item_of_number (records.now ++ new.now) number }
 {
     if number <= records.len() {
-        return match held_at(records, number) {
-            Some(record) => Some(Numbered::Held(record)),
-            None => None,
-        };
-    }
-    match new_at(list, number - records.len()) {
-        Some(standing) => Some(Numbered::New(standing)),
-        None => None,
+        held_at(records, number)
+    } else {
+        held_at(new, number - records.len())
     }
 }
 

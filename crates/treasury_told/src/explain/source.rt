@@ -5,67 +5,18 @@ ghost use Rattle.std.specs.List.{list_all};
 ghost use Rattle.std.specs.Ordering.{int_eq};
 ghost use Rattle.std.specs.Result.{IsOkUnless};
 ghost use Rattle.money_core.specs.declared.cause.Fault.{Fault as FirstFault};
-ghost use Rattle.money_core.specs.AmountText.{IsDeclared};
-ghost use Rattle.money_core.specs.Cost.{cost};
-ghost use Rattle.money_core.specs.Price.{is_price};
 ghost use Rattle.journal_format.specs.declared.txn.Located.{Located as Placed};
 ghost use Rattle.journal_format.specs.Fault.{IsFirstFault};
 ghost use Rattle.journal_format.specs.Pieces.{Reads};
 ghost use Rattle.journal_format.specs.Printable.{IsPrintable, is_posting};
-ghost use Rattle.journal_balance.specs.Legs.{in_unit, cost_value, value_of, sum_of};
 ghost use Rattle.treasury_told.specs.LeftOver.{transaction_on, left_over_line, left_over_text};
 ghost use Rattle.treasury_told.specs.Uneven.{said_of_postings};
 
 use crate::explain::pieces::push_named_sum;
+use journal_balance::sum_of;
 use journal_format::{Located, Posting, Txn, read_journal};
-use money_core::{Cause, Price, Styles, Unit, cost_of};
+use money_core::{Cause, Styles, Unit};
 use std::alloc::Global;
-
-/// The quantity in its own commodity, and 0 in every other.
-fn in_unit(unit: Unit, own: Unit, qty: i64) -> i64
-    ensures { result ≡ in_unit unit own qty }
-{
-    if own.0 == unit.0 { qty } else { 0 }
-}
-
-/// What a quantity of a commodity costs, or 0 where the cost has a fault.
-fn cost_value(qty: i64, unit: Unit, price: &Price, styles: &Styles) -> i64
-    requires amount { IsDeclared styles.now unit qty }
-    requires price { is_price styles.now price.now ≡ true }
-    ensures { result ≡ cost_value (cost styles.now qty unit price.now) }
-{
-    match cost_of(qty, unit, price, styles) {
-        Ok(cost) => cost,
-        Err(_) => 0,
-    }
-}
-
-/// The value of a posting in a commodity, in its smallest units.
-fn value_of(posting: &Posting, unit: Unit, styles: &Styles) -> i64
-    requires { is_posting styles.now posting.now ≡ true }
-    ensures { result ≡ value_of styles.now unit posting.now.amount posting.now.price }
-{
-    let Some((own, qty)) = posting.amount else {
-        return 0;
-    };
-    match posting.price {
-        Some(price) => in_unit(unit, price.unit(), cost_value(qty, own, &price, styles)),
-        None => in_unit(unit, own, qty),
-    }
-}
-
-/// The sum of the values of postings in a commodity, in its smallest units.
-pub fn sum_of(postings: &[Posting], unit: Unit, styles: &Styles) -> i128
-    requires { list_all (is_posting styles.now) postings.now ≡ true }
-    ensures { result ≡ sum_of styles.now unit postings.now }
-{
-    let mut sum: i128 = 0;
-    for posting in postings {
-        let value = value_of(posting, unit, styles);
-        sum += i128::from(value);
-    }
-    sum
-}
 
 /// Whether a sum is 0.
 fn is_zero(left: i128) -> bool

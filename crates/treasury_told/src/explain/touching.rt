@@ -1,32 +1,30 @@
 //! New transactions that may have broken an assertion, and the held ones that they may be.
 
-ghost use Rattle.std.specs.Prelude.{◌≡◌, ◌+◌, ◌<◌, ◌^◌, ◌&&◌, if◌then◌else◌, [], ◌∷◌, ◌++◌, not, map, length, take};
-ghost use Rattle.std.specs.Prelude.{Option, slice_get, IfOk, OnOk};
-ghost use Rattle.std.specs.List.{AllByRecursion, flat_map, list_any};
+ghost use Rattle.std.specs.Prelude.{◌≡◌, ◌+◌, ◌<◌, ◌^◌, if◌then◌else◌, [], ◌∷◌, ◌++◌, not, map, length, take};
+ghost use Rattle.std.specs.Prelude.{slice_get, IfOk, OnOk};
+ghost use Rattle.std.specs.List.{flat_map, list_any};
 ghost use Rattle.std.specs.Result.{IsOkUnless};
 ghost use Rattle.book_core.specs.Account.{reaches};
 ghost use Rattle.book_core.specs.Book.{posted_legs};
 ghost use Rattle.book_core.specs.Claim.{reach_of};
 ghost use Rattle.book_core.specs.Place.{place_le};
-ghost use Rattle.journal_format.specs.Printable.{IsPrintable};
-ghost use Rattle.journal_balance.specs.Legs.{balanced_entry};
-ghost use Rattle.treasury_told.specs.Standing.{entry_in, is_nobody};
-ghost use Rattle.treasury_told.specs.Failure.{reach_on, watched_of, is_seen, touches_watched, touches_in, touching};
+ghost use Rattle.treasury_state.specs.Index.{IsIndexOf};
+ghost use Rattle.treasury_told.specs.Failure.{reach_on, watched_of, is_seen, touches_watched, touching};
 ghost use Rattle.treasury_told.specs.Failure.{same_legs, has_legs_of, same_status, same_code, same_header};
-ghost use Rattle.treasury_told.specs.Failure.{legs_place, header_place, legs_place_in, shared_line, record_text};
+ghost use Rattle.treasury_told.specs.Failure.{legs_place, header_place, shared_line, record_text};
 ghost use Rattle.treasury_told.specs.Failure.{shared_text, touching_text, touching_list_text, more_new_text};
 ghost use Rattle.treasury_told.specs.Failure.{most_listed};
-ghost use Rattle.treasury_told.specs.Numbered.{new_of};
+ghost use Rattle.treasury_told.specs.Reading.{line_of};
 
 use crate::explain::numbered::{leg_at, record_at};
 use crate::explain::pieces::push_header;
 use crate::explain::push_origin;
+use crate::explain::reading::Read;
 use crate::explain::shown::push_number;
-use crate::explain::standing::{Standing, entry_of};
 use book_core::{ClaimKind, Entry, Leg, Place, Placed, Reach, is_inside};
 use journal_format::Txn;
 use journal_lines::Status;
-use money_core::{Cause, Copied, Day, Items, Same, Styles, Text};
+use money_core::{Cause, Copied, Day, Items, Same, Text};
 use std::alloc::Global;
 use treasury_core::Record;
 
@@ -128,87 +126,37 @@ impl Watched {
     }
 }
 
-/// Whether a transaction, as the entry of that number, touches what the assertion looks at, before its place.
-fn is_touching(
-    alloc: Global,
-    styles: &Styles,
-    txn: &Txn,
-    watched: &Watched,
-    number: usize,
-    end: Place,
-) -> Result<bool, Cause>
-    requires { IsPrintable styles.now txn.now }
-    ensures value { IfOk result
-        (λ is. is ≡ touches_in watched.now end number (entry_in (balanced_entry styles.now txn.now))) }
-    ensures memory { IsOkUnless result Cause.OutOfMemory }
-{
-    match entry_of(alloc, styles, txn) {
-        Ok(Some(entry)) => Ok(watched.is_touched_by(&entry, number, end)),
-        Ok(None) => Ok(false),
-        Err(cause) => Err(cause),
-    }
-}
-
-/// Puts a transaction after others, if it is one of them.
-fn push_if<'a>(found: &mut Vec<&'a Standing>, standing: &'a Standing, is: bool) -> Result<(), Cause>
-    ensures value { OnOk result (map (λ s. s.now) found.new.items
-        ≡ map (λ s. s.now) found.old.items ++ (if is then standing.now ∷ [] else [])) }
+/// Puts a record after others, if it is one of them.
+fn push_if<'a>(found: &mut Vec<&'a Record>, row: &'a Record, is: bool) -> Result<(), Cause>
+    ensures value { OnOk result (map (λ r. r.now) found.new.items
+        ≡ map (λ r. r.now) found.old.items ++ (if is then row.now ∷ [] else [])) }
     ensures memory { IsOkUnless result Cause.OutOfMemory }
 {
     if is {
-        found.push(standing)?;
+        found.push(row)?;
     }
     Ok(())
 }
 
-/// Puts a new transaction of a text, as the entry of that number, after others, if it touches what the assertion looks
-/// at, before its place; the number of the next new one.
-fn take_new<'a>(
-    alloc: Global,
-    styles: &Styles,
-    standing: &'a Standing,
-    number: usize,
-    watched: &Watched,
-    end: Place,
-    found: &mut Vec<&'a Standing>,
-) -> Result<usize, Cause>
-    requires printable { IsPrintable styles.now standing.now.txn }
-    requires few { number + 1 < 2 ^ 64 }
-    ensures next { IfOk result (λ next. next ≡ (if is_nobody standing.now.holder then number + 1 else number)) }
-    ensures found { OnOk result (map (λ s. s.now) found.new.items ≡ map (λ s. s.now) found.old.items
-        ++ (if is_nobody standing.now.holder
-        && touches_in watched.now end number (entry_in (balanced_entry styles.now standing.now.txn))
-        then standing.now ∷ [] else [])) }
-    ensures memory { IsOkUnless result Cause.OutOfMemory }
-{
-    if !standing.is_new() {
-        return Ok(number);
-    }
-    let is = is_touching(alloc, styles, &standing.txn, watched, number, end)?;
-    push_if(found, standing, is)?;
-    Ok(number + 1)
-}
-
-/// The new transactions of a text, the first as the entry of that number, that touch what the assertion looks at,
-/// before its place.
+/// Those of new records, the first as the entry of that number, that touch what the assertion looks at, before its
+/// place.
 pub fn find_touching<'a>(
     alloc: Global,
-    styles: &Styles,
-    list: &'a [Standing],
+    new: &'a [Record],
     first: usize,
     watched: &Watched,
     end: Place,
-) -> Result<Vec<&'a Standing>, Cause>
-    requires printable { AllByRecursion (λ s. IsPrintable styles.now s.txn) list.now }
-    requires few { first + length list.now < 2 ^ 64 }
-    ensures value { IfOk result (λ found. map (λ s. s.now) found.items
-        ≡ touching styles.now watched.now end first (new_of list.now)) }
+) -> Result<Vec<&'a Record>, Cause>
+    requires { first + length new.now < 2 ^ 64 }
+    ensures value { IfOk result (λ found. map (λ r. r.now) found.items ≡ touching watched.now end first new.now) }
     ensures memory { IsOkUnless result Cause.OutOfMemory }
 {
     let mut found = Vec::new(alloc);
     let mut number = first;
-    for standing in list {
-        number = take_new(alloc, styles, standing, number, watched, end, &mut found)?;
+    for row in new {
+        let is = watched.is_touched_by(&row.entry, number, end);
+        push_if(&mut found, row, is)?;
+        number += 1;
     }
     Ok(found)
 }
@@ -326,25 +274,6 @@ fn push_at(
     }
 }
 
-/// The place of the first record with the day and the legs of a transaction's entry.
-fn shared_legs(
-    alloc: Global,
-    styles: &Styles,
-    records: &[Record],
-    txn: &Txn,
-) -> Result<Option<usize>, Cause>
-    requires { IsPrintable styles.now txn.now }
-    ensures value { IfOk result
-        (λ place. place ≡ legs_place_in records.now (entry_in (balanced_entry styles.now txn.now))) }
-    ensures memory { IsOkUnless result Cause.OutOfMemory }
-{
-    match entry_of(alloc, styles, txn) {
-        Ok(Some(entry)) => Ok(legs_place(records, &entry)),
-        Ok(None) => Ok(None),
-        Err(cause) => Err(cause),
-    }
-}
-
 /// Appends the held transaction that a new one may be, by its legs or else by its header.
 fn push_shared(
     alloc: Global,
@@ -367,22 +296,22 @@ fn push_shared(
 #[tactic(auto, unfolding(crate::specs::Failure::touching_text))]
 fn push_touching(
     alloc: Global,
-    styles: &Styles,
     records: &[Record],
+    read: &Read,
     source: &str,
-    standing: &Standing,
+    row: &Record,
     out: &mut Vec<u8>,
 ) -> Result<(), Cause>
-    requires { IsPrintable styles.now standing.now.txn }
-    ensures value { OnOk result (out.new.items
-        ≡ out.old.items ++ touching_text styles.now records.now source.now standing.now) }
+    requires { IsIndexOf read.now.first read.now.rows }
+    ensures value { OnOk result (out.new.items ≡ out.old.items
+        ++ touching_text records.now source.now (line_of read.now.file.items read.now.rows) row.now) }
     ensures memory { IsOkUnless result Cause.OutOfMemory }
 {
-    let by_legs = shared_legs(alloc, styles, records, &standing.txn)?;
-    let by_header = header_place(records, &standing.txn);
+    let by_legs = legs_place(records, &row.entry);
+    let by_header = header_place(records, &row.txn);
     out.extend_from_slice(b"  new: ")?;
-    push_origin(source, standing.line, out)?;
-    push_header(alloc, &standing.txn, out)?;
+    push_origin(source, read.line_of(row), out)?;
+    push_header(alloc, &row.txn, out)?;
     push_shared(alloc, records, by_legs, by_header, out)?;
     out.extend_from_slice(b"\n")?;
     Ok(())
@@ -405,25 +334,26 @@ fn push_more(count: usize, out: &mut Vec<u8>) -> Result<(), Cause>
 /// Appends these new transactions.
 fn push_each(
     alloc: Global,
-    styles: &Styles,
     records: &[Record],
+    read: &Read,
     source: &str,
-    new: &[&Standing],
+    new: &[&Record],
     out: &mut Vec<u8>,
 ) -> Result<(), Cause>
-    requires { AllByRecursion (λ s. IsPrintable styles.now s.now.txn) new.now }
+    requires { IsIndexOf read.now.first read.now.rows }
     ensures value { OnOk result (out.new.items ≡ out.old.items
-        ++ flat_map (touching_text styles.now records.now source.now) (map (λ s. s.now) new.now)) }
+        ++ flat_map (touching_text records.now source.now (line_of read.now.file.items read.now.rows))
+        (map (λ r. r.now) new.now)) }
     ensures memory { IsOkUnless result Cause.OutOfMemory }
 {
-    for standing in new {
-        push_touching(alloc, styles, records, source, standing, out)?;
+    for row in new {
+        push_touching(alloc, records, read, source, row, out)?;
     }
     Ok(())
 }
 
 /// The first of these new transactions, at most five.
-fn first_few<'a, 'b>(new: &'a [&'b Standing]) -> &'a [&'b Standing]
+fn first_few<'a, 'b>(new: &'a [&'b Record]) -> &'a [&'b Record]
     ensures { result.now ≡ take most_listed new.now }
 {
     if new.len() <= MOST { new } else { &new[..MOST] }
@@ -432,18 +362,18 @@ fn first_few<'a, 'b>(new: &'a [&'b Standing]) -> &'a [&'b Standing]
 /// Appends new transactions, at most five, and then how many more there are.
 pub fn push_list(
     alloc: Global,
-    styles: &Styles,
     records: &[Record],
+    read: &Read,
     source: &str,
-    new: &[&Standing],
+    new: &[&Record],
     out: &mut Vec<u8>,
 ) -> Result<(), Cause>
-    requires { AllByRecursion (λ s. IsPrintable styles.now s.now.txn) new.now }
-    ensures value { OnOk result (out.new.items
-        ≡ out.old.items ++ touching_list_text styles.now records.now source.now (map (λ s. s.now) new.now)) }
+    requires { IsIndexOf read.now.first read.now.rows }
+    ensures value { OnOk result (out.new.items ≡ out.old.items ++ touching_list_text records.now source.now
+        (line_of read.now.file.items read.now.rows) (map (λ r. r.now) new.now)) }
     ensures memory { IsOkUnless result Cause.OutOfMemory }
 {
     let listed = first_few(new);
-    push_each(alloc, styles, records, source, listed, out)?;
+    push_each(alloc, records, read, source, listed, out)?;
     push_more(new.len(), out)
 }

@@ -1,11 +1,9 @@
 //! What is held of the transfer that a request is on, and the forms of its ID and of a part's key.
 
-ghost use Rattle.std.specs.Prelude.{◌≡◌, ◌-ℤ◌, true, ◌++◌, find, OnOk, IfSome};
+ghost use Rattle.std.specs.Prelude.{◌≡◌, ◌++◌, OnOk, IfSome};
 ghost use Rattle.std.specs.Option.{option_map};
 ghost use Rattle.std.specs.Result.{IsOkUnless};
 ghost use Rattle.treasury_state.specs.Good.{HasGoodParts};
-ghost use Rattle.treasury_state.specs.Transfer.{has_id, is_key, left_of, receipts_of, sum_of_parts};
-ghost use Rattle.treasury_core.specs.Step.{has_key};
 ghost use Rattle.treasury_told.specs.HeldTransfer.{id_asked, part_asked, transfer_in, left_line};
 
 use crate::explain::pieces::{push_amount, push_day, push_named_amount};
@@ -13,16 +11,14 @@ use crate::explain::shown::{push_line, push_named, push_shown};
 use book_core::Ledger;
 use money_core::{Cause, Day, Styles, Text, read_amount};
 use std::alloc::Global;
-use treasury_core::{Part, State, Transfer};
+use treasury_core::{Part, State, Transfer, find_part};
 use treasury_requests::{Request, WrittenPart};
+use treasury_state::{find_transfer, is_id, left_of};
 
 const ID_FORM: &[u8] = b"an ID is 1 to 64 ASCII letters, digits or -._";
 
 const KEY_FORM: &[u8] =
     b"a key is 1 to 32 ASCII letters, digits or -._, and not `all`, which is that of everything that is left";
-
-/// The greatest number of bytes of an ID.
-const MAX_ID: usize = 64;
 
 /// The ID of the transfer that a request is on.
 fn id_of(request: &Request) -> Option<&Text>
@@ -89,29 +85,6 @@ fn push_transfer(
     push_receipt(alloc, transfer, out)
 }
 
-/// What the parts of a transfer leave of its amount.
-fn rest_of(transfer: &Transfer) -> i64
-    requires { HasGoodParts transfer.now }
-    ensures { result ≡ transfer.now.qty -ℤ sum_of_parts transfer.now.parts }
-{
-    let mut left = transfer.qty;
-    'part: for part in transfer.parts.items() {
-        left -= part.qty;
-    }
-    left
-}
-
-/// What is left of a transfer.
-pub fn left_of(transfer: &Transfer) -> i64
-    requires { HasGoodParts transfer.now }
-    ensures { result ≡ left_of transfer.now }
-{
-    match &transfer.receipt {
-        Some(_) => 0,
-        None => rest_of(transfer),
-    }
-}
-
 /// Appends what is left of a transfer.
 pub fn push_left(
     alloc: Global,
@@ -145,28 +118,6 @@ fn push_part(
     Ok(())
 }
 
-/// The receipt of a part under that key.
-pub fn part_under<'a>(transfer: &'a Transfer, key: &str) -> Option<&'a Part>
-    ensures value { option_map (λ part. part.now) result ≡ find (has_key key.now) transfer.now.parts }
-    // Under the key of a part, this is the receipt by which a request is decided.
-    ensures decides { is_key key.now ≡ true
-        → find (has_key key.now) transfer.now.parts ≡ find (has_key key.now) (receipts_of transfer.now) }
-{
-    first_under(transfer.parts.items(), key)
-}
-
-/// The first of some receipts that has the key.
-fn first_under<'a>(parts: &'a [Part], key: &str) -> Option<&'a Part>
-    ensures { option_map (λ part. part.now) result ≡ find (has_key key.now) parts.now }
-{
-    for part in parts {
-        if part.key.as_str() == key {
-            return Some(part);
-        }
-    }
-    None
-}
-
 /// Appends what is held under the key that a request has, or that nothing is left for one without a part.
 fn push_key(
     alloc: Global,
@@ -178,7 +129,7 @@ fn push_key(
     requires { HasGoodParts transfer.now }
 {
     match part_of(request) {
-        Some(asked) => match part_under(transfer, asked.key.as_str()) {
+        Some(asked) => match find_part(transfer.parts.items(), asked.key.as_str()) {
             Some(part) => push_part(alloc, styles, transfer, part, out),
             None => Ok(()),
         },
@@ -206,18 +157,6 @@ fn push_asked(
     push_left(alloc, styles, transfer, out)
 }
 
-/// The first of some transfers that has the ID.
-fn first_with<'a>(transfers: &'a [Transfer], id: &str) -> Option<&'a Transfer>
-    ensures { option_map (λ t. t.now) result ≡ find (has_id id.now) transfers.now }
-{
-    for transfer in transfers {
-        if transfer.id.as_str() == id {
-            return Some(transfer);
-        }
-    }
-    None
-}
-
 /// The transfer that a request is on.
 pub fn transfer_of<'a, L: Ledger>(state: &'a State<L>, request: &Request) -> Option<&'a Transfer>
     ensures value { option_map (λ t. t.now) result ≡ transfer_in state.now (id_asked request.now) }
@@ -225,7 +164,7 @@ pub fn transfer_of<'a, L: Ledger>(state: &'a State<L>, request: &Request) -> Opt
 {
     state.is_good();
     match id_of(request) {
-        Some(id) => first_with(state.transfers(), id.as_str()),
+        Some(id) => find_transfer(state.transfers(), id.as_str()),
         None => None,
     }
 }
@@ -251,20 +190,10 @@ pub fn push_transfer_of<L: Ledger>(
     }
 }
 
-/// Whether a text has that many bytes at most, and at least one, each a letter, a digit, `-`, `.` or `_`.
-fn is_of_id_bytes(text: &[u8], most: usize) -> bool {
-    for byte in text {
-        if !byte.is_ascii_alphanumeric() && !matches!(*byte, b'-' | b'.' | b'_') {
-            return false;
-        }
-    }
-    !text.is_empty() && text.len() <= most
-}
-
 /// Appends the form of an ID, or, where that of a request is well formed, the key of its part and the form of a key.
 pub fn push_id(request: &Request, out: &mut Vec<u8>) -> Result<(), Cause> {
     if let (Some(id), Some(part)) = (id_of(request), part_of(request)) {
-        if is_of_id_bytes(id.as_str().as_bytes(), MAX_ID) {
+        if is_id(id.as_str().as_bytes()) {
             push_named(b"part", part.key.as_str().as_bytes(), out)?;
             return push_line(KEY_FORM, out);
         }

@@ -18,7 +18,6 @@ ghost use Rattle.treasury_told.specs.BroughtAccounts.{further_account_text, furt
 ghost use Rattle.treasury_told.specs.BroughtAccounts.{fitting_text, note_of_accounts, accounts_note};
 ghost use Rattle.treasury_told.specs.OddAmount.{is_posting_line};
 
-use crate::explain::at_fault::is_own_mark;
 use crate::explain::lines::{is_posting, posting_parts};
 use crate::explain::push_origin;
 use crate::explain::shown::{push_number, push_shown};
@@ -30,7 +29,7 @@ use journal_lines::Lines;
 use money_core::Cause;
 use std::alloc::Global;
 use std::collections::HashMap;
-use treasury_core::Record;
+use treasury_core::{Record, is_product_mark};
 
 /// The most bytes of the line that names new accounts, up to the count of those that are left out.
 const MAX_LINE: usize = 2_000;
@@ -41,7 +40,7 @@ fn has_imported(records: &[Record]) -> bool
 {
     records
         .iter()
-        .any(|record| !is_own_mark(record.mark.as_str()))
+        .any(|record| !is_product_mark(record.mark.as_str()))
 }
 
 /// Whether the record has a leg on the account.
@@ -84,10 +83,7 @@ fn put_posted(alloc: Global, accounts: &mut HashMap<String, ()>, row: &Record) -
     ensures memory { IsOkUnless result Cause.OutOfMemory }
 {
     for posting in row.txn.postings.items() {
-        match put_account(alloc, accounts, posting.account.as_str()) {
-            Ok(()) => {}
-            Err(cause) => return Err(cause),
-        }
+        put_account(alloc, accounts, posting.account.as_str())?;
     }
     Ok(())
 }
@@ -100,10 +96,7 @@ fn accounts_of(alloc: Global, new: &[Record]) -> Result<HashMap<String, ()>, Cau
 {
     let mut accounts = HashMap::new(alloc);
     for record in new {
-        match put_posted(alloc, &mut accounts, record) {
-            Ok(()) => {}
-            Err(cause) => return Err(cause),
-        }
+        put_posted(alloc, &mut accounts, record)?;
     }
     Ok(accounts)
 }
@@ -138,13 +131,9 @@ pub fn new_accounts(
         → is_some (get_by_text accounts account) ≡ is_new_account held.now new.now account) }
     ensures memory { IsOkUnless result Cause.OutOfMemory }
 {
-    match accounts_of(alloc, new) {
-        Ok(mut accounts) => {
-            take_held(&mut accounts, held);
-            Ok(accounts)
-        }
-        Err(cause) => Err(cause),
-    }
+    let mut accounts = accounts_of(alloc, new)?;
+    take_held(&mut accounts, held);
+    Ok(accounts)
 }
 
 /// Whether there is such an account; not in a branch's first import.

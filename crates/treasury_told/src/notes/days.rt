@@ -4,10 +4,8 @@
 ghost use Rattle.std.specs.Prelude.{◌≡◌, ◌++◌, true, IfOk, OnOk};
 ghost use Rattle.std.specs.List.{count_by, position_from};
 ghost use Rattle.std.specs.Result.{IsOkUnless};
-ghost use Rattle.std.specs.Str.{bytes_eq, str_to_ascii_lowercase};
 ghost use Rattle.journal_lines.specs.Date.{is_in_calendar};
 ghost use Rattle.journal_balance.specs.Legs.{declared_commodities};
-ghost use Rattle.treasury_core.specs.Choice.{first_part, is_revenue_or_expense};
 ghost use Rattle.treasury_told.specs.FarDays.{with_day, span_of, holds, is_after_by, is_far, is_far_record, far_at};
 ghost use Rattle.treasury_told.specs.FarDays.{far_in, far_words, far_end, is_after, far_day};
 ghost use Rattle.treasury_told.specs.FarDays.{more_far, far_note, far_text, far_transfer, dated, late_note};
@@ -23,7 +21,7 @@ use crate::notes::accounts::push_between;
 use book_core::Ledger;
 use money_core::{Cause, Day, Styles, Text, Unit};
 use std::alloc::Global;
-use treasury_core::{Record, Transfer};
+use treasury_core::{Record, Transfer, is_revenue_or_expense};
 
 /// How many days after the last entry a branch may be closed before it is noted.
 const MOST_TO_CLOSING: i32 = 183;
@@ -400,36 +398,6 @@ fn day_after(day: Day) -> Day
     ensures { result ≡ day_after day }
 {
     Day(day.0 + 1)
-}
-
-/// The part of an account's name before its first colon.
-fn first_part(account: &str) -> &str
-    ensures { result.now ≡ first_part account.now }
-{
-    match account.split_once(':') {
-        Some((first, _)) => first,
-        None => account,
-    }
-}
-
-/// Whether the part is that name, in small or capital ASCII letters.
-fn is_named(part: &str, name: &str) -> bool
-    ensures { result ≡ bytes_eq (str_to_ascii_lowercase part.now) (str_to_ascii_lowercase name.now) }
-{
-    part.eq_ignore_ascii_case(name)
-}
-
-/// Whether the account is one of revenues or expenses, by its first part.
-fn is_revenue_or_expense(account: &str) -> bool
-    ensures { result ≡ is_revenue_or_expense account.now }
-{
-    let part = first_part(account);
-    is_named(part, "income")
-        || is_named(part, "incomes")
-        || is_named(part, "revenue")
-        || is_named(part, "revenues")
-        || is_named(part, "expense")
-        || is_named(part, "expenses")
 }
 
 /// Whether the account has a balance through the day that is not zero, in one of the commodities.

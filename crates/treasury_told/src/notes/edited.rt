@@ -1,193 +1,131 @@
-//! New entries that may be a held one that was edited: they have its header and accounts, and either its day and other
-//! amounts, or its amounts and a day near it.
+//! New entries that may be a held one that was edited, and that the file has no more: they have its day and legs, or
+//! its header and accounts, and either its day and other amounts, or its amounts and a day near it.
 
-mod index;
-
-ghost use Rattle.std.specs.Prelude.{◌≡◌, ◌<◌, ◌++◌, ◌∷◌, [], ◌&&◌, if◌then◌else◌, ℕ, Bool, true, not, List, Option};
-ghost use Rattle.std.specs.Prelude.{length, slice_get, IfOk, OnOk};
+ghost use Rattle.std.specs.Prelude.{◌≡◌, ◌++◌, ◌∷◌, [], ◌||◌, if◌then◌else◌, not, ℤ, IfOk, OnOk, None, cond};
+ghost use Rattle.std.specs.Prelude.{slice_get};
+ghost use Rattle.std.specs.HashMap.{get};
 ghost use Rattle.std.specs.Cmp.Lexicographic.{pointwise};
-ghost use Rattle.std.specs.List.{list_any};
+ghost use Rattle.std.specs.List.{flat_map};
+ghost use Rattle.std.specs.Ordering.{int_eq};
 ghost use Rattle.std.specs.Result.{IsOkUnless};
-ghost use Rattle.money_core.specs.declared.style.Style.{Style};
-ghost use Rattle.treasury_state.specs.declared.record.Record.{Record as Kept};
-ghost use Rattle.treasury_told.specs.Again.{is_marked, again_of};
+ghost use Rattle.journal_lines.specs.HeaderForm.{status_text};
+ghost use Rattle.treasury_state.specs.Index.{IsIndexOf};
 ghost use Rattle.treasury_told.specs.Amounts.{same_amount, same_amounts};
-ghost use Rattle.treasury_told.specs.Candidates.{unmarked_place, may_be_before, candidates_in, candidates_of};
-ghost use Rattle.treasury_told.specs.Edited.{likeness_text, edited_note, edited_text};
-ghost use Rattle.treasury_told.specs.EditedEntries.{with_other_amounts, place_before, edited_with, edited_from};
-ghost use Rattle.treasury_told.specs.EditedEntries.{edited_of};
-ghost use Rattle.treasury_told.specs.EditedIndex.{KeepsFirst, put_before, put_missing, place_among, is_again_at};
+ghost use Rattle.treasury_told.specs.DayPlaces.{kept_on, AreDaysOf};
+ghost use Rattle.treasury_told.specs.Edited.{is_marked, same_account, same_names, unmarked_names, shares};
+ghost use Rattle.treasury_told.specs.Edited.{shares_if, places_on, if_few, pair_at, pairs_on, pairs_same};
+ghost use Rattle.treasury_told.specs.Edited.{pairs_later, pairs_of, pairs_from, is_next_new, first_passed, passes_at};
+ghost use Rattle.treasury_told.specs.Edited.{words_between, words_behind, if_edited, edited_note, edited_text};
+ghost use Rattle.treasury_told.specs.Failure.{text_in};
 ghost use Rattle.treasury_told.specs.Imported.{import_view};
 ghost use Rattle.treasury_told.specs.Listed.{listed};
-ghost use Rattle.treasury_told.specs.Missing.{is_passed_over};
-ghost use Rattle.treasury_told.specs.Near.{is_soon_after, is_near};
 
-use crate::explain::numbered::record_at;
 use crate::explain::pieces::push_header;
 use crate::explain::push_origin;
+use crate::explain::reading::Read;
 use crate::explain::shown::push_number;
-use crate::notes::again::{Again, is_marked, push_if_edited};
-use crate::notes::days::{Span, span_of};
-use crate::notes::edited::index::Places;
+use crate::explain::touching::are_same_legs;
+use crate::notes::days::span_of;
 use crate::notes::listed::push_more;
-use crate::notes::places::NewPlaces;
+use crate::notes::places::passes_at;
 use crate::notes::{Import, MOST};
 use book_core::Leg;
-use journal_format::Txn;
-use money_core::{Cause, Day};
+use journal_format::{Posting, Txn};
+use journal_lines::Status;
+use money_core::Cause;
 use std::alloc::Global;
+use std::collections::HashMap;
 use treasury_core::Record;
 
-/// The most days between an entry and the same one with another day.
-const MOST_DAYS: i32 = 6;
+/// The length of the mark of a transaction that was given none: `h-`, 64 digits, `-`, and a number.
+const LEAST_HASH_MARK: usize = 68;
 
-/// Whether a day is at most six days after another one.
-fn is_soon_after(day: Day, first: Day) -> bool
-    ensures { result ≡ is_soon_after day first }
-{
-    i64::from(day.0) <= i64::from(first.0) + i64::from(MOST_DAYS)
+/// The most held entries of a day that are looked at.
+const MOST_OF_A_DAY: usize = 1_000;
+
+/// How many days after another one a day near to it is, in the order in which they are looked up.
+const NEAR_DAYS: &[i8] = &[-1, 1, -2, 2, -3, 3, -4, 4, -5, 5, -6, 6];
+
+/// Said of an edited transaction that was entered once more.
+const ARE_TWO: &[u8] =
+    b": if it was edited, both are in the books now; with a mark (a comment ; bookid:..) from its first import on, the change would have been refused\n";
+
+/// The same of one that would be.
+const WOULD_BE_TWO: &[u8] =
+    b": if it was edited, both would be in the books; with a mark (a comment ; bookid:..) from its first import on, the change would be refused\n";
+
+/// What a new entry shares with a held one that it may be, edited.
+#[derive(Clone, Copy)]
+pub enum Likeness {
+    /// The day and the legs.
+    Legs,
+    /// The day, the header and the accounts, and not the amounts.
+    Accounts,
+    /// The header, the accounts and the amounts; it is on another day near to its own.
+    Amounts,
 }
 
-/// Whether a record is unmarked, and its day so near to those of the span that one of them may be the same.
-fn is_near(span: Span, record: &Record) -> bool
-    ensures { result ≡ is_near span record.now }
-{
-    let day = record.entry.day;
-    is_soon_after(day, span.newest) && is_soon_after(span.oldest, day) && !is_marked(record)
+/// A new record, and the held one that it may be, edited; by their places, from 0.
+#[derive(Clone, Copy)]
+pub struct Edited {
+    pub new: usize,
+    pub held: usize,
+    pub likeness: Likeness,
 }
 
-/// Whether one of the records is so.
-fn has_near(span: Span, records: &[Record]) -> bool
-    ensures { result ≡ list_any (is_near span) records.now }
+/// Whether the transaction has a mark of its own.
+pub fn is_marked(record: &Record) -> bool
+    ensures { result ≡ is_marked record.now }
 {
-    records.iter().any(|record| is_near(span, record))
+    let mark = record.mark.as_str();
+    !mark.starts_with("h-") || mark.len() < LEAST_HASH_MARK
 }
 
-/// Puts the place of an unmarked record before those of others.
-fn put_unmarked<'a>(places: &mut Places<'a>, record: &'a Record, place: usize) -> Result<(), Cause>
-    ensures value { (first : (Kept → Bool) → Option ℕ) → KeepsFirst places.old first
-        → OnOk result (KeepsFirst places.new (put_before (not (is_marked record.now)) record.now place first)) }
-    ensures memory { IsOkUnless result Cause.OutOfMemory }
+/// The text of a status.
+fn status_text(status: Option<Status>) -> &'static str
+    ensures { result.now ≡ status_text status }
 {
-    if is_marked(record) {
-        return Ok(());
-    }
-    places.put(record, place)
-}
-
-/// The places of the unmarked records.
-fn unmarked_places<'a>(alloc: Global, records: &'a [Record]) -> Result<Places<'a>, Cause>
-    ensures value { IfOk result (λ places. KeepsFirst places (unmarked_place records.now)) }
-    ensures memory { IsOkUnless result Cause.OutOfMemory }
-{
-    let mut places = Places::new(alloc);
-    let mut place = records.len();
-    // From the last to the first, so that the first one stays.
-    'records: while place > 0 {
-        place -= 1;
-        put_unmarked(&mut places, &records[place], place)?;
-    }
-    Ok(places)
-}
-
-/// Whether a held record may be one of the new ones, before it was edited.
-fn may_be_before(new: &Places<'_>, record: &Record) -> bool
-    ensures { (list : List Kept) → KeepsFirst new.now (unmarked_place list) → result ≡ may_be_before list record.now }
-{
-    new.find_on_day(record).is_some() || new.find_near(record).is_some()
-}
-
-/// Puts the place of a held record after others, if it is near to the days of the new ones and may be one of them.
-fn push_candidate(
-    span: Span,
-    new: &Places<'_>,
-    record: &Record,
-    place: usize,
-    found: &mut Vec<usize>,
-) -> Result<(), Cause>
-    ensures value { (list : List Kept) → KeepsFirst new.now (unmarked_place list) → OnOk result (found.new.items
-        ≡ found.old.items ++ (if is_near span record.now && may_be_before list record.now then place ∷ [] else [])) }
-    ensures memory { IsOkUnless result Cause.OutOfMemory }
-{
-    if is_near(span, record) && may_be_before(new, record) {
-        found.push(place)?;
-    }
-    Ok(())
-}
-
-/// The places of held records that may be new ones, whose days are in that span, before they were edited.
-fn candidates_in(
-    alloc: Global,
-    held: &[Record],
-    new: &[Record],
-    span: Span,
-) -> Result<Vec<usize>, Cause>
-    ensures value { IfOk result (λ found. found.items ≡ candidates_in new.now span 0 held.now) }
-    ensures memory { IsOkUnless result Cause.OutOfMemory }
-{
-    let mut found = Vec::new(alloc);
-    if !has_near(span, held) {
-        return Ok(found);
-    }
-    let places = unmarked_places(alloc, new)?;
-    for (place, record) in held.iter().enumerate() {
-        push_candidate(span, &places, record, place, &mut found)?;
-    }
-    Ok(found)
-}
-
-/// The places of held records that may be new ones, before they were edited. What the file has is not looked at.
-pub fn find_candidates(alloc: Global, held: &[Record], new: &[Record]) -> Result<Vec<usize>, Cause>
-    ensures value { IfOk result (λ found. found.items ≡ candidates_of held.now new.now) }
-    ensures memory { IsOkUnless result Cause.OutOfMemory }
-{
-    match span_of(new) {
-        Some(span) => candidates_in(alloc, held, new, span),
-        None => Ok(Vec::new(alloc)),
+    match status {
+        None => "",
+        Some(Status::Pending) => "!",
+        Some(Status::Cleared) => "*",
     }
 }
 
-/// Puts the place of a held record before those of others, if the file passes over that record.
-fn put_missing<'a>(
-    missing: &mut Places<'a>,
-    held: &'a [Record],
-    place: usize,
-    new_places: &NewPlaces,
-) -> Result<(), Cause>
-    ensures value { (first : (Kept → Bool) → Option ℕ) → KeepsFirst missing.old first → OnOk result
-        (KeepsFirst missing.new (put_missing (is_passed_over new_places.now) place (slice_get held.now place) first)) }
-    ensures memory { IsOkUnless result Cause.OutOfMemory }
+/// The code of a transaction; none is empty.
+fn code_text(txn: &Txn) -> &str
+    ensures { result.now ≡ text_in txn.now.code }
 {
-    match held.get(place) {
-        Some(record) => {
-            if new_places.is_missing(place, record.entry.day) {
-                missing.put(record, place)?;
-            }
-            Ok(())
+    match &txn.code {
+        Some(code) => code.as_str(),
+        None => "",
+    }
+}
+
+/// Whether postings have the same accounts, one by one.
+fn are_same_accounts(postings: &[Posting], others: &[Posting]) -> bool
+    ensures { result ≡ pointwise same_account postings.now others.now }
+{
+    if postings.len() != others.len() {
+        return false;
+    }
+    for (place, posting) in postings.iter().enumerate() {
+        if posting.account.as_str() != others[place].account.as_str() {
+            return false;
         }
-        None => Ok(()),
     }
+    true
 }
 
-/// The places, among the candidates, of the records that the file passes over.
-fn missing_of<'a>(
-    alloc: Global,
-    held: &'a [Record],
-    candidates: &[usize],
-    new_places: &NewPlaces,
-) -> Result<Places<'a>, Cause>
-    ensures value { IfOk result (λ missing.
-        KeepsFirst missing (place_among (is_passed_over new_places.now) held.now candidates.now)) }
-    ensures memory { IsOkUnless result Cause.OutOfMemory }
+/// Whether two records have the same status, code, description and accounts.
+fn has_names_of(record: &Record, other: &Record) -> bool
+    ensures { result ≡ same_names record.now other.now }
 {
-    let mut missing = Places::new(alloc);
-    let mut at = candidates.len();
-    // From the last to the first, so that the first one stays.
-    'candidates: while at > 0 {
-        at -= 1;
-        put_missing(&mut missing, held, candidates[at], new_places)?;
-    }
-    Ok(missing)
+    let (txn, second) = (&record.txn, &other.txn);
+    status_text(txn.status) == status_text(second.status)
+        && code_text(txn) == code_text(second)
+        && txn.description.as_str() == second.description.as_str()
+        && are_same_accounts(txn.postings.items(), second.postings.items())
 }
 
 /// Whether two legs have the same amount.
@@ -219,161 +157,324 @@ fn has_amounts_of(record: &Record, other: &Record) -> bool
     are_same_amounts(record.entry.legs.items(), other.entry.legs.items())
 }
 
-/// The place, if the held record there has other amounts than a new one.
-fn with_other_amounts(held: &[Record], record: &Record, place: Option<usize>) -> Option<usize>
-    ensures { result ≡ with_other_amounts held.now record.now place }
+/// Whether neither of two records has a mark of its own, and both have the same status, code, description and accounts.
+fn has_unmarked_names_of(record: &Record, other: &Record) -> bool
+    ensures { result ≡ unmarked_names record.now other.now }
 {
-    let at = place?;
-    let before = record_at(held, at)?;
-    if has_amounts_of(record, before) {
-        None
-    } else {
-        place
+    !(is_marked(record) || is_marked(other)) && has_names_of(record, other)
+}
+
+/// Whether a held record and a new one share so much, and may be one transaction.
+fn shares(likeness: Likeness, held: &Record, new: &Record) -> bool
+    ensures { result ≡ shares likeness held.now new.now }
+{
+    match likeness {
+        Likeness::Legs => {
+            are_same_legs(&held.entry.legs, &new.entry.legs) && !(is_marked(held) && is_marked(new))
+        }
+        Likeness::Accounts => has_unmarked_names_of(held, new) && !has_amounts_of(held, new),
+        Likeness::Amounts => has_unmarked_names_of(held, new) && has_amounts_of(held, new),
     }
 }
 
-/// The place of the held record that a new one was before it was edited, if it may have been.
-fn find_before(held: &[Record], missing: &Places<'_>, record: &Record) -> Option<usize>
-    ensures { (first : (Kept → Bool) → Option ℕ) → KeepsFirst missing.now first
-        → result ≡ place_before first held.now record.now }
+/// Takes the places that are kept under a day.
+fn take_places(alloc: Global, days: &mut HashMap<i64, Vec<usize>>, day: i64) -> Vec<usize>
+    ensures taken { result.items ≡ kept_on days.old day }
+    ensures left { (other : ℤ) → get int_eq days.new other
+        ≡ cond (int_eq day other) None (get int_eq days.old other) }
 {
-    let on_day = with_other_amounts(held, record, missing.find_on_day(record));
-    if on_day.is_some() {
-        on_day
-    } else {
-        missing.find_near(record)
+    match days.remove(&day) {
+        Some(places) => places,
+        None => Vec::new(alloc),
     }
 }
 
-/// A new record, and the held one that it may have been before it was edited.
-#[derive(Clone, Copy)]
-pub struct Edited {
-    /// The place among the new records, from 0.
-    pub new: usize,
-    /// The place among the held records, from 0.
-    pub held: usize,
-    /// Whether both have the same amounts.
-    pub has_amounts: bool,
-}
-
-/// Puts a new record and the held one at that place after others, if there is one.
-fn push_with(
-    held: &[Record],
-    at: usize,
-    record: &Record,
+/// Puts a place after those that are kept under a day.
+fn put_on_day(
+    alloc: Global,
+    days: &mut HashMap<i64, Vec<usize>>,
+    day: i64,
     place: usize,
+) -> Result<(), Cause>
+    ensures value { OnOk result ((other : ℤ) → kept_on days.new other
+        ≡ kept_on days.old other ++ (if int_eq day other then place ∷ [] else [])) }
+    ensures memory { IsOkUnless result Cause.OutOfMemory }
+{
+    let mut places = take_places(alloc, days, day);
+    places.push(place)?;
+    let Ok(_old) = days.insert(day, places) else {
+        return Err(Cause::OutOfMemory);
+    };
+    Ok(())
+}
+
+/// The places of held records by their days.
+fn days_of(alloc: Global, held: &[Record]) -> Result<HashMap<i64, Vec<usize>>, Cause>
+    ensures value { IfOk result (λ days. AreDaysOf days held.now) }
+    ensures memory { IsOkUnless result Cause.OutOfMemory }
+{
+    let mut days = HashMap::new(alloc);
+    for (place, record) in held.iter().enumerate() {
+        put_on_day(alloc, &mut days, i64::from(record.entry.day.0), place)?;
+    }
+    Ok(days)
+}
+
+/// The places of held records on a day, if they are not too many.
+fn places_on<'a>(days: &'a HashMap<i64, Vec<usize>>, held: &[Record], day: i64) -> &'a [usize]
+    requires { AreDaysOf days.now held.now }
+    ensures { result.now ≡ if_few (places_on day 0 held.now) }
+{
+    let _ = held;
+    match days.get(&day) {
+        Some(places) if places.len() <= MOST_OF_A_DAY => places.as_slice(),
+        _ => &[],
+    }
+}
+
+/// Whether the held record at a place and a new one share so much, and may be one transaction.
+fn shares_at(likeness: Likeness, held: &[Record], place: usize, new: &Record) -> bool
+    ensures { result ≡ shares_if likeness new.now (slice_get held.now place) }
+{
+    match held.get(place) {
+        Some(record) => shares(likeness, record, new),
+        None => false,
+    }
+}
+
+/// Puts the pair of the new record at a place and the held one at another after others, if they share so much.
+fn put_pair(
+    held: &[Record],
+    place: usize,
+    at: usize,
+    new: &Record,
+    likeness: Likeness,
     found: &mut Vec<Edited>,
 ) -> Result<(), Cause>
     ensures value { OnOk result (found.new.items
-        ≡ found.old.items ++ edited_with at record.now place (slice_get held.now place)) }
+        ≡ found.old.items ++ pair_at held.now at new.now likeness place) }
     ensures memory { IsOkUnless result Cause.OutOfMemory }
 {
-    match record_at(held, place) {
-        Some(before) => {
-            found.push(Edited {
-                new: at,
-                held: place,
-                has_amounts: has_amounts_of(record, before),
-            })?;
-            Ok(())
-        }
-        None => Ok(()),
+    if shares_at(likeness, held, place, new) {
+        found.push(Edited {
+            new: at,
+            held: place,
+            likeness,
+        })?;
     }
+    Ok(())
 }
 
-/// Puts a new record after others, if it may be a held one of those places, edited.
-fn push_if_edited_of(
+/// Puts the pairs of the new record at a place with held ones at those places after others.
+fn put_pairs(
     held: &[Record],
-    missing: &Places<'_>,
+    places: &[usize],
     at: usize,
-    record: &Record,
+    new: &Record,
+    likeness: Likeness,
     found: &mut Vec<Edited>,
 ) -> Result<(), Cause>
-    ensures value { (first : (Kept → Bool) → Option ℕ) → KeepsFirst missing.now first → OnOk result
-        (found.new.items ≡ found.old.items ++ edited_from first held.now at record.now) }
+    ensures value { OnOk result (found.new.items
+        ≡ found.old.items ++ flat_map (pair_at held.now at new.now likeness) places.now) }
     ensures memory { IsOkUnless result Cause.OutOfMemory }
 {
-    if is_marked(record) {
-        return Ok(());
+    for place in places {
+        put_pair(held, *place, at, new, likeness, found)?;
     }
-    match find_before(held, missing, record) {
-        Some(place) => push_with(held, at, record, place, found),
-        None => Ok(()),
-    }
+    Ok(())
 }
 
-/// Whether the next one that has come again is the new record at that place.
-fn is_next(again: &[Again], next: usize, at: usize) -> bool
-    ensures is { result ≡ is_again_at at (slice_get again.now next) }
-    ensures within { result ≡ true → next < length again.now }
-{
-    next < again.len() && again[next].new == at
-}
-
-/// The new records that may be a candidate that was edited; those of `again` are noted already.
-pub fn find_edited(
-    alloc: Global,
-    import: &Import<'_>,
-    new_places: &NewPlaces,
-    candidates: &[usize],
-    again: &[Again],
-) -> Result<Vec<Edited>, Cause>
-    // If these are the candidates and those that have come again, as they are found.
-    ensures value { let it = import.now in (styles : List Style)
-        → candidates.now ≡ candidates_of it.held.now it.new.now
-        → again.now ≡ again_of styles it.held.now 0 it.new.now
-        → IfOk result (λ found. found.items
-        ≡ edited_of styles (is_passed_over new_places.now) it.held.now 0 it.new.now) }
+/// The same with held ones on a day.
+fn put_pairs_on(
+    days: &HashMap<i64, Vec<usize>>,
+    held: &[Record],
+    day: i64,
+    at: usize,
+    new: &Record,
+    likeness: Likeness,
+    found: &mut Vec<Edited>,
+) -> Result<(), Cause>
+    requires { AreDaysOf days.now held.now }
+    ensures value { OnOk result (found.new.items ≡ found.old.items ++ pairs_on held.now at new.now likeness day) }
     ensures memory { IsOkUnless result Cause.OutOfMemory }
 {
+    let places = places_on(days, held, day);
+    put_pairs(held, places, at, new, likeness, found)
+}
+
+/// The same with those that have its amounts, and are so many days later.
+fn put_later(
+    days: &HashMap<i64, Vec<usize>>,
+    held: &[Record],
+    at: usize,
+    new: &Record,
+    later: i8,
+    found: &mut Vec<Edited>,
+) -> Result<(), Cause>
+    requires { AreDaysOf days.now held.now }
+    ensures value { OnOk result (found.new.items ≡ found.old.items ++ pairs_later held.now at new.now later) }
+    ensures memory { IsOkUnless result Cause.OutOfMemory }
+{
+    let day = i64::from(new.entry.day.0) + i64::from(later);
+    put_pairs_on(days, held, day, at, new, Likeness::Amounts, found)
+}
+
+/// The same of all these numbers of days.
+fn put_near(
+    days: &HashMap<i64, Vec<usize>>,
+    held: &[Record],
+    at: usize,
+    new: &Record,
+    near: &[i8],
+    found: &mut Vec<Edited>,
+) -> Result<(), Cause>
+    requires { AreDaysOf days.now held.now }
+    ensures value { OnOk result (found.new.items
+        ≡ found.old.items ++ flat_map (pairs_later held.now at new.now) near.now) }
+    ensures memory { IsOkUnless result Cause.OutOfMemory }
+{
+    for later in near {
+        put_later(days, held, at, new, *later, found)?;
+    }
+    Ok(())
+}
+
+/// The same with held ones on its own day.
+fn put_same(
+    days: &HashMap<i64, Vec<usize>>,
+    held: &[Record],
+    at: usize,
+    new: &Record,
+    likeness: Likeness,
+    found: &mut Vec<Edited>,
+) -> Result<(), Cause>
+    requires { AreDaysOf days.now held.now }
+    ensures value { OnOk result (found.new.items ≡ found.old.items ++ pairs_same held.now at new.now likeness) }
+    ensures memory { IsOkUnless result Cause.OutOfMemory }
+{
+    let day = i64::from(new.entry.day.0);
+    put_pairs_on(days, held, day, at, new, likeness, found)
+}
+
+/// Puts the pairs of the new record at a place after others.
+fn put_all(
+    days: &HashMap<i64, Vec<usize>>,
+    held: &[Record],
+    at: usize,
+    new: &Record,
+    found: &mut Vec<Edited>,
+) -> Result<(), Cause>
+    requires { AreDaysOf days.now held.now }
+    ensures value { OnOk result (found.new.items ≡ found.old.items ++ pairs_of held.now at new.now) }
+    ensures memory { IsOkUnless result Cause.OutOfMemory }
+{
+    put_same(days, held, at, new, Likeness::Legs, found)?;
+    put_same(days, held, at, new, Likeness::Accounts, found)?;
+    put_near(days, held, at, new, NEAR_DAYS, found)
+}
+
+/// New records with the held ones that they may be, edited, each with those that are most alike first. What the file
+/// has is not looked at.
+pub fn find_pairs(alloc: Global, held: &[Record], new: &[Record]) -> Result<Vec<Edited>, Cause>
+    ensures value { IfOk result (λ found. found.items ≡ pairs_from held.now 0 new.now) }
+    ensures memory { IsOkUnless result Cause.OutOfMemory }
+{
+    let days = days_of(alloc, held)?;
     let mut found = Vec::new(alloc);
-    let missing = missing_of(alloc, import.held, candidates, new_places)?;
-    let mut next = 0usize;
-    for (at, record) in import.new.iter().enumerate() {
-        if is_next(again, next, at) {
-            next += 1;
-        } else {
-            push_if_edited_of(import.held, &missing, at, record, &mut found)?;
-        }
+    for (at, record) in new.iter().enumerate() {
+        put_all(&days, held, at, record, &mut found)?;
     }
     Ok(found)
 }
 
-/// What stands between the headers.
-fn likeness_text(has_amounts: bool) -> &'static [u8]
-    ensures { result.now ≡ likeness_text has_amounts }
+/// Whether a new record is another one than the last, if there was one.
+fn is_after(last: Option<usize>, new: usize) -> bool
+    ensures { result ≡ is_next_new last new }
 {
-    if has_amounts {
-        b" has the accounts and the amounts of entry "
-    } else {
-        b" has the accounts and not the amounts of entry "
+    match last {
+        Some(last) => last != new,
+        None => true,
     }
 }
 
-/// Appends the note of a new record, and of the held one that it may have been.
+/// Of the pairs of each new record the first whose held one a file passes over.
+pub fn first_passed(
+    alloc: Global,
+    read: &Read,
+    held: &[Record],
+    pairs: &[Edited],
+) -> Result<Vec<Edited>, Cause>
+    requires { IsIndexOf read.now.first read.now.rows }
+    ensures value { IfOk result (λ edited.
+        edited.items ≡ first_passed (passes_at read.now.rows held.now) None pairs.now) }
+    ensures memory { IsOkUnless result Cause.OutOfMemory }
+{
+    let span = span_of(read.rows.items());
+    let mut edited = Vec::new(alloc);
+    let mut last = None;
+    for pair in pairs {
+        if is_after(last, pair.new) && passes_at(read, span, held, pair.held) {
+            edited.push(*pair)?;
+            last = Some(pair.new);
+        }
+    }
+    Ok(edited)
+}
+
+/// What stands between the headers.
+fn words_between(likeness: Likeness) -> &'static [u8]
+    ensures { result.now ≡ words_between likeness }
+{
+    match likeness {
+        Likeness::Legs => b" has the day and the legs of entry ",
+        Likeness::Accounts => b" has the accounts and not the amounts of entry ",
+        Likeness::Amounts => b" has the accounts and the amounts of entry ",
+    }
+}
+
+/// What stands behind them.
+fn words_behind(likeness: Likeness) -> &'static [u8]
+    ensures { result.now ≡ words_behind likeness }
+{
+    match likeness {
+        Likeness::Legs => b"",
+        Likeness::Accounts | Likeness::Amounts => b", which the file does not have",
+    }
+}
+
+/// Appends what holds of a new transaction that is a held one, edited, and what keeps an edited transaction one.
+fn push_if_edited(is_dry_run: bool, out: &mut Vec<u8>) -> Result<(), Cause>
+    ensures value { OnOk result (out.new.items ≡ out.old.items ++ if_edited is_dry_run) }
+    ensures memory { IsOkUnless result Cause.OutOfMemory }
+{
+    out.extend_from_slice(if is_dry_run { WOULD_BE_TWO } else { ARE_TWO })?;
+    Ok(())
+}
+
+/// Appends the note of a new transaction on that line, and of the entry of that number.
 #[tactic(auto, unfolding(crate::specs::Edited::edited_note))]
 fn push_note(
     alloc: Global,
     import: &Import<'_>,
     line: usize,
-    has_amounts: bool,
+    likeness: Likeness,
     new: &Txn,
     number: usize,
     held: &Txn,
     out: &mut Vec<u8>,
 ) -> Result<(), Cause>
     ensures value { OnOk result (out.new.items
-        ≡ out.old.items ++ edited_note (import_view import.now) line has_amounts new.now number held.now) }
+        ≡ out.old.items ++ edited_note (import_view import.now) line likeness new.now number held.now) }
     ensures memory { IsOkUnless result Cause.OutOfMemory }
 {
     out.extend_from_slice(b"note: ")?;
     push_origin(import.source, line, out)?;
     push_header(alloc, new, out)?;
-    out.extend_from_slice(likeness_text(has_amounts))?;
+    out.extend_from_slice(words_between(likeness))?;
     push_number(number, out)?;
     out.extend_from_slice(b", ")?;
     push_header(alloc, held, out)?;
-    out.extend_from_slice(b", which the file does not have")?;
+    out.extend_from_slice(words_behind(likeness))?;
     push_if_edited(import.is_dry_run, out)
 }
 
@@ -403,7 +504,7 @@ fn push_one(
         alloc,
         import,
         *line,
-        edited.has_amounts,
+        edited.likeness,
         &new.txn,
         edited.held + 1,
         &held.txn,

@@ -1,38 +1,33 @@
 //! The notes of an import: of what it added to the book of a branch, or would add.
 
-ghost use Rattle.std.specs.Prelude.{◌≡◌, ◌++◌, ◌&&◌, ◌||◌, ◌↔◌, ℕ, Bool, List, [], true, false, None, is_some, length};
-ghost use Rattle.std.specs.Prelude.{IfOk, OnOk, IsTrue, Option};
+ghost use Rattle.std.specs.Prelude.{◌≡◌, ◌++◌, ◌&&◌, ◌↔◌, ℕ, Bool, List, [], true, false, None, length};
+ghost use Rattle.std.specs.Prelude.{IfOk, OnOk, IsTrue};
 ghost use Rattle.std.specs.List.{position_from};
 ghost use Rattle.std.specs.Result.{IsOkUnless};
-ghost use Rattle.money_core.specs.declared.day.Day.{Day};
-ghost use Rattle.money_core.specs.declared.style.Style.{Style};
 ghost use Rattle.book_core.specs.Accounts.{book_accounts};
 ghost use Rattle.journal_format.specs.declared.txn.Located.{Located};
-ghost use Rattle.treasury_state.specs.Mark.{HaveOwnMarks};
-ghost use Rattle.treasury_told.specs.Added.{added_lines, IsTaken, IsNoneRefused};
-ghost use Rattle.treasury_told.specs.Again.{again_of};
-ghost use Rattle.treasury_told.specs.Candidates.{candidates_of};
+ghost use Rattle.journal_format.specs.Pieces.{Reads};
+ghost use Rattle.treasury_state.specs.Index.{IsIndexOf};
 ghost use Rattle.treasury_told.specs.Dated.{is_dated};
+ghost use Rattle.treasury_told.specs.Edited.{pairs_from, edited_of};
 ghost use Rattle.treasury_told.specs.FarDays.{far_in, far_if_any};
-ghost use Rattle.treasury_told.specs.FirstNotes.{BeginsWithNotes};
-ghost use Rattle.treasury_told.specs.ImportNotes.{accounts_if, date_if_any, notes_with, is_grown, further_notes};
-ghost use Rattle.treasury_told.specs.ImportNotes.{import_further, import_first, import_notes, far_and_odd, AreNoted};
+ghost use Rattle.treasury_told.specs.ImportNotes.{accounts_if, date_if_any, notes_with, is_grown, notes_in, own_notes};
+ghost use Rattle.treasury_told.specs.ImportNotes.{import_notes, AreNoted};
 ghost use Rattle.treasury_told.specs.Imported.{import_view};
-ghost use Rattle.treasury_told.specs.Missing.{is_passed_over};
 ghost use Rattle.treasury_told.specs.NewAccount.{is_new_account, has_imported};
 ghost use Rattle.treasury_told.specs.OddAmount.{odd_amounts};
 ghost use Rattle.treasury_told.specs.OddNotes.{odd_notes};
 ghost use Rattle.treasury_told.specs.OtherBranch.{AreAllPrintable};
 
+use crate::explain::reading::{Read, read_rows};
 use crate::notes::BranchBefore;
 use crate::notes::accounts::{has_new_account, push_accounts};
-use crate::notes::again::{Again, find_again, push_again};
 use crate::notes::amounts::{find_odd, may_have_odd, push_odds};
 use crate::notes::dated::{find_dated, push_dated};
 use crate::notes::days::{Far, find_far, push_far};
-use crate::notes::edited::{find_candidates, find_edited, push_edited};
+use crate::notes::edited::{Edited, find_pairs, first_passed, push_edited};
 use crate::notes::other_branch::push_other_branch;
-use crate::notes::places::{NewPlaces, new_places};
+use crate::notes::places::lines_of;
 use book_core::Ledger;
 use money_core::{Cause, Styles};
 use std::alloc::Global;
@@ -56,9 +51,8 @@ pub(crate) struct Import<'a> {
 struct Noted {
     far: Option<Far>,
     may_have_odd: bool,
-    again: Vec<Again>,
-    /// The places of held records that new ones may be, edited.
-    candidates: Vec<usize>,
+    /// New records with held ones that they may be, edited.
+    pairs: Vec<Edited>,
     has_new_account: bool,
     /// The place of the first new record with a posting that has a date.
     dated: Option<usize>,
@@ -68,24 +62,15 @@ impl Noted {
     fn is_empty(&self) -> bool
         ensures odd { IsTrue result → self.now.may_have_odd ≡ false }
         ensures far { IsTrue result → self.now.far ≡ None }
-        ensures again { IsTrue result → length self.now.again.items ≡ 0 }
-        ensures candidates { IsTrue result → length self.now.candidates.items ≡ 0 }
+        ensures pairs { IsTrue result → length self.now.pairs.items ≡ 0 }
         ensures accounts { IsTrue result → self.now.has_new_account ≡ false }
         ensures dated { IsTrue result → self.now.dated ≡ None }
     {
         self.far.is_none()
             && !self.may_have_odd
-            && self.again.is_empty()
-            && self.candidates.is_empty()
+            && self.pairs.is_empty()
             && !self.has_new_account
             && self.dated.is_none()
-    }
-
-    /// Whether there is a far day, or there may be an odd amount: then the whole text tells the lines.
-    fn is_rare(&self) -> bool
-        ensures { result ≡ (self.now.may_have_odd || is_some self.now.far) }
-    {
-        self.may_have_odd || self.far.is_some()
     }
 }
 
@@ -165,44 +150,41 @@ fn push_date_if(
 fn push_further(
     alloc: Global,
     import: &Import<'_>,
-    places: &NewPlaces,
+    read: &Read,
+    lines: &[usize],
     noted: &Noted,
     out: &mut Vec<u8>,
 ) -> Result<(), Cause>
-    ensures { let it = import_view import.now in (styles : List Style)
-        → noted.now.again.items ≡ again_of styles it.held 0 it.new
-        → noted.now.candidates.items ≡ candidates_of it.held it.new
-        → OnOk result (out.new.items ≡ out.old.items ++ notes_with styles it noted.now.has_new_account
-        noted.now.dated places.now.lines.items (is_passed_over places.now)) }
+    requires { IsIndexOf read.now.first read.now.rows }
+    ensures { let it = import_view import.now in noted.now.pairs.items ≡ pairs_from it.held 0 it.new
+        → OnOk result (out.new.items ≡ out.old.items ++ notes_with it noted.now.has_new_account noted.now.dated
+        lines.now (edited_of read.now.rows it.held it.new)) }
 {
-    let lines: &[usize] = places.lines.as_slice();
-    let again = noted.again.as_slice();
-    let candidates = noted.candidates.as_slice();
-    push_again(alloc, import, lines, again, out)?;
-    let found = find_edited(alloc, import, places, candidates, again)?;
+    let pairs = noted.pairs.as_slice();
+    let found = first_passed(alloc, read, import.held, pairs)?;
     let edited = found.as_slice();
     push_edited(alloc, import, lines, edited, out)?;
     push_accounts_if(alloc, import, lines, noted.has_new_account, out)?;
     push_date_if(alloc, import, lines, noted.dated, out)
 }
 
-/// Appends the notes of an import at these places, kind by kind.
+/// Appends the notes of an import whose new transactions stand on these lines, kind by kind.
 fn push_at(
     alloc: Global,
     styles: &Styles,
     import: &Import<'_>,
-    places: &NewPlaces,
+    read: &Read,
+    lines: &[usize],
     noted: &Noted,
     out: &mut Vec<u8>,
 ) -> Result<(), Cause>
-    ensures { let it = import_view import.now in let heads = places.now.lines.items in (grown : Bool)
-        → AreNoted styles.now it grown noted.now → OnOk result (out.new.items ≡ out.old.items
-        ++ (far_and_odd styles.now it heads ++ further_notes styles.now it grown heads (is_passed_over places.now))) }
+    requires { IsIndexOf read.now.first read.now.rows }
+    ensures { let it = import_view import.now in (grown : Bool) → AreNoted styles.now it grown noted.now
+        → OnOk result (out.new.items ≡ out.old.items ++ notes_in styles.now it grown lines.now read.now.rows) }
 {
-    let lines: &[usize] = places.lines.as_slice();
     push_far_days(alloc, import, lines, noted.far, out)?;
     push_odd_amounts(alloc, styles, import, lines, noted.may_have_odd, out)?;
-    push_further(alloc, import, places, noted, out)
+    push_further(alloc, import, read, lines, noted, out)
 }
 
 /// Appends the notes of an import, kind by kind.
@@ -213,19 +195,14 @@ fn push_noted(
     noted: &Noted,
     out: &mut Vec<u8>,
 ) -> Result<(), Cause>
-    ensures first { let it = import_view import.now in (list : List Located) (grown : Bool)
-        → IsTaken styles.now it.held it.text it.new list → AreNoted styles.now it grown noted.now → OnOk result
-        (BeginsWithNotes (far_and_odd styles.now it (added_lines styles.now it.held list))
-        out.old.items out.new.items) }
-    ensures all { let it = import_view import.now in (list : List Located) (lock : Option Day) (grown : Bool)
-        → IsTaken styles.now it.held it.text it.new list → IsNoneRefused styles.now lock it.held list
-        → AreAllPrintable styles.now it.held → HaveOwnMarks it.held → AreNoted styles.now it grown noted.now
-        → OnOk result (out.new.items ≡ out.old.items ++ (far_and_odd styles.now it
-        (added_lines styles.now it.held list) ++ import_further styles.now it grown list)) }
+    ensures { let it = import_view import.now in (list : List Located) (grown : Bool)
+        → Reads styles.now it.text list → AreNoted styles.now it grown noted.now
+        → OnOk result (out.new.items ≡ out.old.items ++ own_notes styles.now it grown list) }
 {
-    let asked = noted.candidates.as_slice();
-    let places = new_places(alloc, styles, import, asked, noted.is_rare())?;
-    push_at(alloc, styles, import, &places, noted, out)
+    let read = read_rows(alloc, styles, import.text)?;
+    let found = lines_of(alloc, &read, import.new)?;
+    let lines = found.as_slice();
+    push_at(alloc, styles, import, &read, lines, noted, out)
 }
 
 /// How many accounts a branch has.
@@ -272,26 +249,21 @@ fn noted_of<L: Ledger>(
     ensures odd { IfOk result (λ noted. (heads : List ℕ) → noted.may_have_odd ≡ false
         → odd_amounts styles.now heads import.now.text.now ≡ []) }
     ensures far { IfOk result (λ noted. noted.far ≡ far_in import.now.held.now import.now.new.now) }
-    ensures again { AreAllPrintable styles.now import.now.held.now → AreAllPrintable styles.now import.now.new.now
-        → IfOk result (λ noted. noted.again.items
-        ≡ again_of styles.now import.now.held.now 0 import.now.new.now) }
-    ensures candidates { IfOk result (λ noted. noted.candidates.items
-        ≡ candidates_of import.now.held.now import.now.new.now) }
+    ensures pairs { IfOk result (λ noted. noted.pairs.items
+        ≡ pairs_from import.now.held.now 0 import.now.new.now) }
     ensures accounts { IfOk result (λ noted. IsTrue noted.has_new_account
         ↔ (((is_grown before (L.book branch.now.ledger) && has_imported import.now.held.now) ≡ true)
         × ((account : List ℕ) × (is_new_account import.now.held.now import.now.new.now account ≡ true)))) }
     ensures dated { IfOk result (λ noted. noted.dated ≡ position_from is_dated 0 import.now.new.now) }
 {
     let may_have_odd = may_have_odd(styles, import.text);
-    let again = find_again(alloc, styles, import.held, import.new)?;
-    let candidates = find_candidates(alloc, import.held, import.new)?;
+    let pairs = find_pairs(alloc, import.held, import.new)?;
     let is_grown = is_grown(branch, before);
     let has_new_account = names_account(alloc, is_grown, import.held, import.new)?;
     Ok(Noted {
         far: find_far(import),
         may_have_odd,
-        again,
-        candidates,
+        pairs,
         has_new_account,
         dated: find_dated(import.new),
     })
@@ -306,17 +278,9 @@ fn push_if_noted<L: Ledger>(
     before: BranchBefore,
     out: &mut Vec<u8>,
 ) -> Result<(), Cause>
-    ensures first { let it = import_view import.now in (list : List Located)
-        → AreAllPrintable styles.now it.held → AreAllPrintable styles.now it.new
-        → IsTaken styles.now it.held it.text it.new list → OnOk result
-        (BeginsWithNotes (far_and_odd styles.now it (added_lines styles.now it.held list))
-        out.old.items out.new.items) }
-    ensures all { let it = import_view import.now in (list : List Located) (lock : Option Day)
-        → AreAllPrintable styles.now it.held → AreAllPrintable styles.now it.new → HaveOwnMarks it.held
-        → IsTaken styles.now it.held it.text it.new list → IsNoneRefused styles.now lock it.held list
-        → OnOk result (out.new.items ≡ out.old.items ++ (far_and_odd styles.now it
-        (added_lines styles.now it.held list)
-        ++ import_further styles.now it (is_grown before (L.book branch.now.ledger)) list)) }
+    ensures { let it = import_view import.now in (list : List Located) → Reads styles.now it.text list
+        → OnOk result (out.new.items
+        ≡ out.old.items ++ own_notes styles.now it (is_grown before (L.book branch.now.ledger)) list) }
 {
     let noted = noted_of(alloc, styles, branch, import, before)?;
     if noted.is_empty() {
@@ -334,16 +298,8 @@ pub fn note_import<L: Ledger>(
     before: BranchBefore,
     out: &mut Vec<u8>,
 ) -> Result<(), Cause>
-    // They begin with those of another branch, of far days, and of odd amounts.
-    ensures first { let it = import_view import.now in (list : List Located)
-        → AreAllPrintable state.now.styles it.held → AreAllPrintable state.now.styles it.new
-        → IsTaken state.now.styles it.held it.text it.new list
-        → OnOk result (BeginsWithNotes (import_first state.now it list) out.old.items out.new.items) }
-    // All of them, where nothing of the journal was refused.
-    ensures all { let it = import_view import.now in (list : List Located) (lock : Option Day)
-        → AreAllPrintable state.now.styles it.held → AreAllPrintable state.now.styles it.new → HaveOwnMarks it.held
-        → IsTaken state.now.styles it.held it.text it.new list → IsNoneRefused state.now.styles lock it.held list
-        → OnOk result (out.new.items
+    ensures { let it = import_view import.now in (list : List Located) → AreAllPrintable state.now.styles it.new
+        → Reads state.now.styles it.text list → OnOk result (out.new.items
         ≡ out.old.items ++ import_notes state.now it (is_grown before (L.book branch.now.ledger)) list) }
 {
     if import.new.is_empty() {

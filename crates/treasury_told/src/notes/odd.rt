@@ -1,10 +1,9 @@
 //! Amounts whose group mark does not stand before exactly three digits: a decimal mark may have been meant.
 
-ghost use Rattle.std.specs.Prelude.{◌≡◌, false, slice_index};
+ghost use Rattle.std.specs.Prelude.{◌≡◌, slice_index};
 ghost use Rattle.std.specs.Char.{is_ascii_digit};
 ghost use Rattle.std.specs.Option.{option_map};
 ghost use Rattle.money_core.specs.Mark.{group_byte};
-ghost use Rattle.money_core.specs.declared.unit.Unit.{Unit as Commodity};
 ghost use Rattle.money_core.specs.PriceReading.{price};
 ghost use Rattle.money_core.specs.Reading.{amount};
 ghost use Rattle.treasury_told.specs.OddAmount.{seen_with, has_three, is_odd_mark, is_odd_amount};
@@ -114,18 +113,6 @@ fn is_odd_in(styles: &Styles, unit: Unit, text: &[u8]) -> bool
     }
 }
 
-/// Whether an amount would be odd, if it were of one of the commodities.
-fn may_be_odd(styles: &Styles, text: &[u8]) -> bool
-    ensures { (unit : Commodity) → result ≡ false → is_odd_in styles.now unit text.now ≡ false }
-{
-    for number in 0..styles.len() {
-        if is_odd_in(styles, Unit(number as u16), text) {
-            return true;
-        }
-    }
-    false
-}
-
 /// The text, if it is UTF-8.
 fn text_in(text: &[u8]) -> Option<&str>
     ensures { option_map (λ t. t.now) result ≡ text_if_utf8 text.now }
@@ -162,9 +149,6 @@ fn read_odd(styles: &Styles, text: &str) -> Option<ReadAs>
 pub fn odd_amount(styles: &Styles, text: &[u8]) -> Option<ReadAs>
     ensures { result ≡ odd_amount styles.now text.now }
 {
-    if !may_be_odd(styles, text) {
-        return None;
-    }
     match text_in(text) {
         Some(text) => read_odd(styles, text),
         None => None,
@@ -186,9 +170,6 @@ fn read_odd_price(styles: &Styles, text: &str) -> Option<ReadAs>
 pub fn odd_price(styles: &Styles, text: &[u8]) -> Option<ReadAs>
     ensures { result ≡ odd_price styles.now text.now }
 {
-    if !may_be_odd(styles, text) {
-        return None;
-    }
     match text_in(text) {
         Some(text) => read_odd_price(styles, text),
         None => None,

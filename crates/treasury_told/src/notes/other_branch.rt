@@ -4,6 +4,8 @@ ghost use Rattle.std.specs.Prelude.{◌≡◌, ◌++◌, IfOk, OnOk};
 ghost use Rattle.std.specs.List.{count_by};
 ghost use Rattle.std.specs.Option.{option_map};
 ghost use Rattle.std.specs.Result.{IsOkUnless};
+ghost use Rattle.std.specs.Str.{bytes_eq};
+ghost use Rattle.journal_format.specs.CanonicalText.{body_text};
 ghost use Rattle.journal_format.specs.Printable.{IsPrintable};
 ghost use Rattle.treasury_state.specs.Index.{IsIndexOf};
 ghost use Rattle.treasury_told.specs.OtherBranch.{AreAllPrintable, has_text_of, is_held_so, held_count, with_more};
@@ -11,18 +13,32 @@ ghost use Rattle.treasury_told.specs.OtherBranch.{more_holding, most_holding, ho
 ghost use Rattle.treasury_told.specs.OtherBranch.{holding_note, other_note};
 
 use crate::explain::shown::push_number;
-use crate::explain::standing::is_same_text;
 use crate::notes::accounts::push_between;
-use crate::notes::again::is_marked;
+use crate::notes::edited::is_marked;
 use book_core::Ledger;
+use journal_format::{Txn, is_printable};
 use money_core::{Cause, Styles};
 use std::alloc::Global;
 use std::collections::HashMap;
 use treasury_core::{Record, State};
-use treasury_state::{find_branch, find_mark};
+use treasury_state::{find_branch, find_mark, text_of};
 
 /// The fewest new transactions of which it is noted.
 const LEAST_NEW: usize = 10;
+
+/// Whether two transactions have the same canonical text, their marks aside.
+fn is_same_text(alloc: Global, styles: &Styles, txn: &Txn, other: &Txn) -> Result<bool, Cause>
+    ensures value { IsPrintable styles.now txn.now → IsPrintable styles.now other.now
+        → IfOk result (λ is. is ≡ bytes_eq (body_text styles.now txn.now) (body_text styles.now other.now)) }
+    ensures memory { IsOkUnless result Cause.OutOfMemory }
+{
+    if !is_printable(txn, styles) || !is_printable(other, styles) {
+        return Ok(false);
+    }
+    let text = text_of(alloc, txn, styles)?;
+    let second = text_of(alloc, other, styles)?;
+    Ok(text.as_slice() == second.as_slice())
+}
 
 /// Whether two records with one mark have the same text. A mark that was made of the text tells that.
 fn has_text_of(
@@ -140,10 +156,8 @@ fn more_holding<'a, L: Ledger>(
     if name == branch {
         return Ok(most);
     }
-    match held_count(alloc, state, name, new) {
-        Ok(count) => Ok(Some(with_more(most, name, count))),
-        Err(cause) => Err(cause),
-    }
+    let count = held_count(alloc, state, name, new)?;
+    Ok(Some(with_more(most, name, count)))
 }
 
 /// The other branch that holds the most of the new records, the first of several.
@@ -212,8 +226,6 @@ pub fn push_other_branch<L: Ledger>(
     if new.len() < LEAST_NEW {
         return Ok(());
     }
-    match find_holding(alloc, state, branch, new) {
-        Ok(most) => push_if_half(most, new.len(), out),
-        Err(cause) => Err(cause),
-    }
+    let most = find_holding(alloc, state, branch, new)?;
+    push_if_half(most, new.len(), out)
 }

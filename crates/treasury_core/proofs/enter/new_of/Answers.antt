@@ -8,10 +8,10 @@ use Rattle.treasury_state.specs.declared.record.Record.{Record}
 use Rattle.treasury_state.specs.Mark.{held}
 use Rattle.treasury_state.specs.Good.{IsGoodRecord}
 use Rattle.treasury_state.proofs.HolderLemmas.{held_all}
-use Rattle.treasury_core.specs.Step.{refused_in, new_in}
+use Rattle.treasury_core.specs.Step.{new_in}
 use Rattle.treasury_core.specs.Judged.{judged}
-use Rattle.treasury_core.proofs.JudgedLemmas.{by_cause, judged_taken, judged_passed, next_refused, next_new, next_own}
-use Rattle.treasury_core.proofs.JudgedLemmas.{next_held}
+use Rattle.treasury_core.proofs.JudgedLemmas.{by_cause, judged_taken, judged_passed, next_new, next_own}
+use Rattle.treasury_core.proofs.JudgedLemmas.{next_held, next_stops, reached_new, reached_passed, reached_rest}
 use Rattle.treasury_core.proofs.enter.new_of.Goals as goal
 
 pub is_new-requires-clause-holder : goal.is_new-requires-clause-holder
@@ -43,8 +43,8 @@ rows-preserved-in_default c =
     let t = judged_taken styles c.args.lock (base ++ new) rest row is in
     let all = subst (AllByRecursion (IsGoodRecord styles)) split c.rows.invariant.rest in
     record {
-      refused = next_refused styles c.args.lock base new c.push_marked.new.records rest c.rows.row-iterator.rest.items
-          row _ c.in_default.ensures.ok split t c.rows.invariant.refused;
+      reached = reached_new styles c.args.lock base c.args.rows new c.push_marked.new.records rest
+          c.rows.row-iterator.rest.items row c.rows.passed c.in_default.ensures.ok split is c.rows.invariant.reached;
       all = next_new styles c.args.lock base new c.push_marked.new.records rest c.rows.row-iterator.rest.items row _
           c.in_default.ensures.ok split t c.rows.invariant.all;
       found = c.in_default.ensures.found;
@@ -70,7 +70,8 @@ rows-preserved c =
     let split = c.in-Some.ensures.steps.0 in
     let p = judged_passed styles c.args.lock (base ++ new) rest row c.rows.invariant.own is in
     record {
-      refused = sym p.refused ∙ ap (refused_in styles c.args.lock (base ++ new)) (sym split) ∙ c.rows.invariant.refused;
+      reached = reached_passed styles c.args.lock base c.args.rows new rest c.rows.row-iterator.rest.items row
+          c.rows.passed c.rows.invariant.own split is c.rows.invariant.reached;
       all = ap (λ (xs : List Record). new ++ xs) (sym p.new ∙ ap (new_in (base ++ new)) (sym split)) ∙
           c.rows.invariant.all;
       found = c.rows.invariant.found;
@@ -85,9 +86,24 @@ returns-in-Err-clause-err c =
     let base = c.args.base.now in
     let new = c.rows.new in
     let row = c.in-Some.row in
-    let rest = c.next.new.self.rest.items in
+    let items = c.rows.row-iterator.rest.items in
     let found : option_copied c.holder_of-holder.result ≡ held (base ++ new) row.mark =
     c.holder_of-holder.ensures ∙ ap (λ (ns : List Record). held (base ++ ns) c.as_str.result.now) c.items.ensures ∙ ap
     (held (base ++ new)) c.as_str.ensures in
-    by_cause styles base new row rest c.rows.row-iterator.rest.items c.args.lock c.in-Err.refusal _ found
-    c.in-Some.ensures.steps.0 c.rows.invariant.own c.rows.invariant.refused c.in-Err.ensures.err
+    by_cause styles base new row c.next.new.self.rest.items items c.args.lock c.in-Err.refusal _ found
+    c.in-Some.ensures.steps.0 c.rows.invariant.own
+    (reached_rest styles c.args.lock base c.args.rows new items c.rows.passed c.rows.invariant.reached)
+    c.in-Err.ensures.err
+
+pub returns-in-Err-clause-stops : goal.returns-in-Err-clause-stops
+returns-in-Err-clause-stops c =
+    let styles = c.args.styles.now in
+    let base = c.args.base.now in
+    let new = c.rows.new in
+    let row = c.in-Some.row in
+    let items = c.rows.row-iterator.rest.items in
+    let found : option_copied c.holder_of-holder.result ≡ held (base ++ new) row.mark =
+    c.holder_of-holder.ensures ∙ ap (λ (ns : List Record). held (base ++ ns) c.as_str.result.now) c.items.ensures ∙ ap
+    (held (base ++ new)) c.as_str.ensures in
+    next_stops styles base c.args.rows new row c.next.new.self.rest.items items c.args.lock c.rows.passed
+    c.in-Err.refusal found c.in-Some.ensures.steps.0 c.rows.invariant.own c.rows.invariant.reached c.in-Err.ensures.err

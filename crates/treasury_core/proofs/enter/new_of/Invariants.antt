@@ -3,14 +3,15 @@ use Rattle.std.specs.List.{AllByRecursion}
 use Rattle.treasury_state.specs.Mark.{HaveOwnMarks}
 use Rattle.treasury_state.specs.Good.{IsGoodRecord}
 use Rattle.treasury_state.specs.Index.{IsIndexOf}
-use Rattle.treasury_core.specs.Step.{refused_in, new_in}
+use Rattle.treasury_core.specs.Step.{new_in}
+use Rattle.treasury_core.proofs.JudgedLemmas.{IsReached}
 use Rattle.treasury_core.proofs.enter.new_of.Given as goal
 
--- after the old records and the new ones so far, the rest is refused and taken as all is after the old ones
+-- those before the place are taken; after the old records and the new ones so far, the rest is taken as all is after
+-- the old ones
 abbrev pub invariant-rows : goal.invariant-rows
 invariant-rows l = record {
-  refused : refused_in l.styles l.lock (l.base ++ l.new) l.row-iterator.rest.items
-      ≡ refused_in l.styles l.lock l.base l.fn.rows;
+  reached : IsReached l.styles l.lock l.base l.fn.rows l.new l.row-iterator.rest.items l.passed;
   all : l.new ++ new_in (l.base ++ l.new) l.row-iterator.rest.items ≡ new_in l.base l.fn.rows;
   found : IsIndexOf l.marks l.new;
   own : HaveOwnMarks (l.base ++ l.new);

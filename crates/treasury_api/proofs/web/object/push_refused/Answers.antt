@@ -1,6 +1,6 @@
 use Rattle.std.proofs.Common.{◌≡◌, ◌++◌, ◌∙◌, List, ℕ, OnOk, ap, subst, decimal, length}
 use Rattle.money_core.specs.Cause.{cause_number, cause_name}
-use Rattle.treasury_told.specs.Sentence.{sentence_of}
+use Rattle.treasury_messages.specs.Sentence.{sentence_of}
 use Rattle.treasury_api.proofs.ObjectLemmas.{refused_as, refused_fits}
 use Rattle.treasury_api.proofs.web.object.push_refused.Goals as goal
 

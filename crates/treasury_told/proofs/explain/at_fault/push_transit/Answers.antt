@@ -11,4 +11,4 @@ returns-clause-value c =
     c.in_ok-extend_from_slice.ensures.items
     ∙ ap (λ (xs : List ℕ). xs ++ line) (c.in_ok-push_named.ensures.value
     ∙ ap (λ (account : List ℕ). old ++ named account) (c.as_bytes.ensures.value ∙ c.as_str.ensures))
-    ∙ append_assoc old (named c.args.account.now) line
+    ∙ append_assoc old (named c.args.leg.now.account) line

@@ -1,23 +1,53 @@
-use Rattle.std.proofs.Common.{◌++◌, ◌∙◌, ap, List}
+use Rattle.std.proofs.Common.{◌≡◌, ◌∙◌, ap, sym, subst, List, ℕ, true, false}
 use Rattle.std.proofs.lemmas.Result.{on_ok_weaker}
-use Rattle.treasury_state.specs.Federation.{records_of}
-use Rattle.treasury_told.specs.declared.explain.standing.Standing.{Standing}
-use Rattle.treasury_told.specs.Failure.{failure_text}
-use Rattle.treasury_told.proofs.ExplainLemmas.{failure_told}
+use Rattle.money_core.specs.declared.style.Style.{Style}
+use Rattle.journal_format.specs.Pieces.{Reads}
+use Rattle.treasury_state.specs.declared.record.Record.{Record}
+use Rattle.treasury_state.specs.Federation.{has_branch, records_of}
+use Rattle.treasury_state.specs.Good.{IsGoodBranch}
+use Rattle.treasury_state.specs.Seen.{branch_of}
+use Rattle.treasury_state.proofs.FindLemmas.{branch_at_Some, branch_at_None}
+use Rattle.treasury_state.proofs.HoldsLemmas.{found_holds}
+use Rattle.treasury_core.specs.Step.{new_in}
+use Rattle.treasury_told.specs.Failure.{text_asked}
+use Rattle.treasury_told.proofs.FailureLemmas.{failure_told}
 use Rattle.treasury_told.proofs.explain.failure.explain_failure.Goals as goal
 
-pub returns-in-Ok-clause-value : goal.returns-in-Ok-clause-value
-returns-in-Ok-clause-value g c =
+pub brought_by-requires-clause-good : goal.brought_by-requires-clause-good
+brought_by-requires-clause-good g c =
     let f = c.args.state.now in
-    let failure = c.args.failure.now in
-    let styles = c.styles-styles.result.now in
-    let records = c.records_of-records.result.now in
-    let text = c.text_in-text.result.now in
-    on_ok_weaker c.explain_on.result
-    (λ e. failure_told f c.args.request.now c.args.source.now failure c.args.out.now.items _ styles records
-    c.in-Ok.list.items _ text c.styles-styles.ensures
-    (c.records_of-records.ensures ∙ ap (records_of f) c.judged_branch.ensures)
-    c.journal_of-journal.ensures c.text_in-text.ensures c.in-Ok.ensures.value
-    (e ∙ ap (λ (found : List Standing). c.args.out.now.items
-    ++ failure_text styles records c.args.source.now text found failure) c.as_slice.ensures.value))
-    c.explain_on.ensures.value
+    let b = branch_of c.in-Some.branch.now in
+    subst (λ (ss : List Style). IsGoodBranch ss b) (sym c.styles-styles.ensures)
+    (found_holds (IsGoodBranch f.styles) f.branches c.judged_branch.result.now b c.in-Some.ensures.found
+    c.is_good.ensures.branches)
+
+pub returns-in_default : goal.returns-in_default
+returns-in_default g c = record {
+  value = λ list there reads.
+      let f = c.args.state.now in
+      let none = (branch_at_None f.branches c.judged_branch.result.now c.in_default.ensures.found).none in
+      absurd (let wrong : true ≡ false = sym there ∙ ap (has_branch f) (sym c.judged_branch.ensures) ∙ none in cc);
+}
+
+pub returns-in-Ok : goal.returns-in-Ok
+returns-in-Ok g c = record {
+  value = λ list there reads.
+      let f = c.args.state.now in
+      let styles = c.styles-styles.result.now in
+      let text = c.text_of-text.result.now in
+      let records = c.items-records.result.now in
+      let read = c.in-Ok.brought.read in
+      let known = subst (λ (bs : List ℕ). Reads styles bs list) (sym c.text_of-text.ensures)
+      (subst (λ (ss : List Style). Reads ss (text_asked c.args.request.now) list)
+      (sym c.styles-styles.ensures) reads) in
+      let at = branch_at_Some f.branches c.judged_branch.result.now _ c.in-Some.ensures.found in
+      on_ok_weaker c.explain_on.result
+      (λ e. failure_told f c.args.request.now c.args.source.now c.args.failure.now c.args.out.now.items _ styles records
+      read.rows c.items-new.result.now read.file.items list text c.styles-styles.ensures
+      (c.items-records.ensures ∙ sym at.records ∙ ap (records_of f) c.judged_branch.ensures) c.text_of-text.ensures
+      (c.in-Ok.ensures.only list known) c.in-Ok.ensures.read.rows
+      (c.items-new.ensures ∙ c.in-Ok.ensures.new
+      ∙ ap (λ (rs : List Record). new_in rs read.rows) (sym c.items-records.ensures))
+      e)
+      c.explain_on.ensures.value;
+}

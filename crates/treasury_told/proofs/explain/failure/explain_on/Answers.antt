@@ -1,40 +1,29 @@
-use Rattle.std.proofs.Common.{◌∙◌, refl, sym, Some, None}
+use Rattle.std.proofs.Common.{◌∙◌, ◌++◌, ap, rules, ℕ, ℤ, List, Option, to_z, of_z}
+use Rattle.std.specs.Int.{w64}
+use Rattle.std.proofs.lemmas.Int.{to_z-of_z}
 use Rattle.std.proofs.lemmas.Result.{on_ok_weaker}
-use Rattle.journal_format.specs.Printable.{IsPrintable}
-use Rattle.treasury_told.specs.declared.explain.standing.Standing.{Standing}
-use Rattle.treasury_told.specs.Numbered.{held, brought}
-use Rattle.treasury_told.proofs.ExplainLemmas.{failure_is, brought_is}
+use Rattle.money_core.proofs.Appends.{appended_thrice}
+use Rattle.treasury_state.specs.declared.record.Record.{Record}
+use Rattle.treasury_told.specs.Failure.{amounts_text, failure_of, failure_text}
+use Rattle.treasury_told.specs.Reading.{line_of}
 use Rattle.treasury_told.proofs.explain.failure.explain_on.Goals as goal
 
-pub entry_of-requires : goal.entry_of-requires
-entry_of-requires c =
-    brought_is (λ (s : Standing). IsPrintable c.args.styles.now s.txn) c.args.records.now c.args.list.now
-    c.args.failure.now.place.entry c.in-Some-New.new.now (rw c.in-Some-New.field-0-is at c.in-Some-New.ensures)
-    c.requires
-
-pub returns-in_ok-push_new-in-Some-New-clause-value : goal.returns-in_ok-push_new-in-Some-New-clause-value
-returns-in_ok-push_new-in-Some-New-clause-value c =
-    let one = rw c.in-Some-New.field-0-is at c.in-Some-New.ensures in
-    on_ok_weaker c.push_found.result
-    (λ e. failure_is c.args.styles.now c.args.records.now c.args.source.now c.args.text.now c.args.list.now
-    c.args.failure.now (Some (brought c.in-Some-New.new.now)) _ c.args.out.now.items c.push_new.new.out.items _
-    (sym one) c.in_ok-push_new-in-Some-New.ensures.value
-    (c.as_ref-own.ensures.value ∙ c.in_ok-own-in-Some-New.ensures.value) e)
-    c.push_found.ensures.value
-
-pub returns-in_ok-push_held-in-Some-Held-clause-value : goal.returns-in_ok-push_held-in-Some-Held-clause-value
-returns-in_ok-push_held-in-Some-Held-clause-value c =
-    let one = rw c.in-Some-Held.field-0-is at c.in-Some-Held.ensures in
-    on_ok_weaker c.push_found-in-Some-Held.result
-    (λ e. failure_is c.args.styles.now c.args.records.now c.args.source.now c.args.text.now c.args.list.now
-    c.args.failure.now (Some (held c.in-Some-Held.record.now)) _ c.args.out.now.items c.push_held.new.out.items _
-    (sym one) c.in_ok-push_held-in-Some-Held.ensures.value refl e)
-    c.push_found-in-Some-Held.ensures.value
-
-pub returns-in_ok-push_sentence-in-None-clause-value : goal.returns-in_ok-push_sentence-in-None-clause-value
-returns-in_ok-push_sentence-in-None-clause-value c =
-    on_ok_weaker c.push_found-in-None.result
-    (λ e. failure_is c.args.styles.now c.args.records.now c.args.source.now c.args.text.now c.args.list.now
-    c.args.failure.now None _ c.args.out.now.items c.push_sentence.new.out.items _ (sym c.in-None.ensures)
-    c.in_ok-push_sentence-in-None.ensures.value refl e)
-    c.push_found-in-None.ensures.value
+pub returns-clause-value : goal.returns-clause-value
+unfolding failure_text
+returns-clause-value c =
+    let f = c.args.failure.now in
+    let styles = c.args.styles.now in
+    let records = c.args.records.now in
+    let line = line_of c.args.read.now.file.items c.args.read.now.rows in
+    let one = c.push_claim.new.out.items in
+    let amounts : ℤ → ℤ → List ℕ = λ asserted found. amounts_text styles f.unit asserted found in
+    on_ok_weaker c.push_touching_leg.result
+    (λ e. appended_thrice c.args.out.now.items one c.push_amounts.new.out.items _ _ (amounts f.asserted f.found) _
+    c.in_ok-push_claim.ensures.value
+    (c.in_ok-push_amounts.ensures.value
+    ∙ ap (λ (q : ℤ). one ++ amounts q (to_z w64 (of_z w64 f.found))) (to_z-of_z w64 f.asserted (search rules))
+    ∙ ap (λ (q : ℤ). one ++ amounts f.asserted q) (to_z-of_z w64 f.found (search rules)))
+    e
+    ∙ ap (λ (o : Option Record). c.args.out.now.items
+    ++ failure_of styles records c.args.source.now c.args.text.now line c.args.new.now f o) c.entry_at-row.ensures)
+    c.push_touching_leg.ensures.value

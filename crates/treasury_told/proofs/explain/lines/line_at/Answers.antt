@@ -1,7 +1,7 @@
-use Rattle.std.proofs.Common.{ap, ◌∙◌, ℕ, List}
+use Rattle.std.proofs.Common.{ap, ◌∙◌}
 use Rattle.journal_lines.specs.declared.lines.Lines.{Lines}
 use Rattle.journal_lines.specs.Lines.{lines, numbered as lines_from}
-use Rattle.treasury_told.proofs.LineLemmas.{with_number, from_one, line_next, line_here, line_end}
+use Rattle.treasury_told.proofs.LineLemmas.{with_number, from_one, line_next}
 use Rattle.treasury_told.proofs.explain.lines.line_at.Goals as goal
 
 pub loop-number-init : goal.loop-number-init

@@ -7,5 +7,5 @@ use Rattle.treasury_told.proofs.explain.transfers.transfer_of.Goals as goal
 
 pub returns-in-Some-clause-good : goal.returns-in-Some-clause-good
 returns-in-Some-clause-good g c =
-    parts_good c.args.state.now c.as_str.result.now c.first_with.result c.is_good.ensures
-    (c.first_with.ensures ∙ ap (λ (ts : List Transfer). find (has_id c.as_str.result.now) ts) c.transfers.ensures)
+    parts_good c.args.state.now c.as_str.result.now c.find_transfer.result c.is_good.ensures
+    (c.find_transfer.ensures ∙ ap (λ (ts : List Transfer). find (has_id c.as_str.result.now) ts) c.transfers.ensures)

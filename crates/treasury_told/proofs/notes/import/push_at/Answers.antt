@@ -1,12 +1,13 @@
-use Rattle.std.proofs.Common.{◌≡◌, ◌++◌, ◌∙◌, ℕ, List, Option, ap, subst, OnOk}
+use Rattle.std.proofs.Common.{◌++◌, ◌∙◌, ℕ, List, ap, Option}
 use Rattle.std.proofs.lemmas.Result.{on_ok_weaker}
+use Rattle.money_core.proofs.Appends.{appended_thrice}
 use Rattle.treasury_told.specs.declared.notes.days.Far.{Far}
-use Rattle.treasury_told.specs.OddNotes.{odd_notes}
-use Rattle.treasury_told.specs.FarDays.{far_in, far_if_any, far_notes}
+use Rattle.treasury_told.specs.Edited.{edited_of}
+use Rattle.treasury_told.specs.FarDays.{far_if_any, far_notes}
 use Rattle.treasury_told.specs.Imported.{import_view}
 use Rattle.treasury_told.specs.ImportNotes.{further_notes}
-use Rattle.treasury_told.specs.Missing.{is_passed_over}
-use Rattle.treasury_told.proofs.ImportNoteLemmas.{at_lines, noted_further}
+use Rattle.treasury_told.specs.OddNotes.{odd_notes}
+use Rattle.treasury_told.proofs.ImportNoteLemmas.{noted_further}
 use Rattle.treasury_told.proofs.notes.import.push_at.Goals as goal
 
 pub returns : goal.returns
@@ -14,19 +15,16 @@ unfolding far_notes
 returns c = λ grown n.
     let it = import_view c.args.import.now in
     let styles = c.args.styles.now in
-    let lines = c.as_slice-lines.result.now in
-    let heads = c.args.places.now.lines.items in
-    let same = c.as_slice-lines.ensures.value in
-    let passed = is_passed_over c.args.places.now in
+    let lines = c.args.lines.now in
+    let old = c.args.out.now.items in
+    let second = c.push_odd_amounts.new.out.items in
+    let edited = edited_of c.args.read.now.rows it.held it.new in
     on_ok_weaker c.push_further.result
-    (at_lines c.args.out.now.items c.push_far_days.new.out.items c.push_odd_amounts.new.out.items
-    c.push_further.new.out.items
-    (λ ns. far_if_any it.source it.branch it.new ns (far_in it.held it.new))
-    (λ ns. odd_notes styles it.source it.text ns) (further_notes styles it grown heads passed) lines heads same
+    (λ e. appended_thrice old c.push_far_days.new.out.items second c.push_further.new.out.items
+    (far_notes it.source it.branch it.held it.new lines) (odd_notes styles it.source it.text lines)
+    (further_notes it grown lines edited)
     (c.in_ok-push_far_days.ensures.value
-    ∙ ap (λ (far : Option Far). c.args.out.now.items ++ far_if_any it.source it.branch it.new lines far) n.far)
-    (c.in_ok-push_odd_amounts.ensures (n.odd lines)))
-    (subst (λ (notes : List ℕ). OnOk c.push_further.result
-    (c.push_further.new.out.items ≡ c.push_odd_amounts.new.out.items ++ notes))
-    (noted_further styles it grown c.args.noted.now heads passed n)
-    (c.push_further.ensures styles n.again n.candidates))
+    ∙ ap (λ (far : Option Far). old ++ far_if_any it.source it.branch it.new lines far) n.far)
+    (c.in_ok-push_odd_amounts.ensures (n.odd lines))
+    (e ∙ ap (λ (notes : List ℕ). second ++ notes) (noted_further styles it grown c.args.noted.now lines edited n)))
+    (c.push_further.ensures n.pairs)
