@@ -16,6 +16,7 @@ use Rattle.treasury_requests.specs.declared.request.Request.TheVariants.{Branche
 abbrev pub with_text : List ℕ → List ℕ → Members → Members
 with_text key text ms = put key (string text) ms
 
+-- with a text at a key, if there is one
 abbrev pub with_optional : List ℕ → Option (List ℕ) → Members → Members
 with_optional key None ms = ms
 with_optional key (Some text) ms = with_text key text ms
@@ -24,15 +25,19 @@ with_optional key (Some text) ms = with_text key text ms
 abbrev pub with_word : List ℕ → Members → Members
 with_word word ms = with_text (codes "do") word ms
 
+-- with the name of the branch
 abbrev pub with_branch_key : List ℕ → Members → Members
 with_branch_key name ms = with_text (codes "branch") name ms
 
+-- with the day
 abbrev pub with_day_key : Day → Members → Members
 with_day_key day ms = with_text (codes "day") (printed_date day) ms
 
+-- with the account
 abbrev pub with_account_key : List ℕ → Members → Members
 with_account_key name ms = with_text (codes "account") name ms
 
+-- with the key and the amount of a part, if there is one
 abbrev pub with_part_keys : Option WrittenPart → Members → Members
 with_part_keys None ms = ms
 with_part_keys (Some part) ms = with_text (codes "amount") part.amount (with_text (codes "part") part.key ms)

@@ -37,6 +37,7 @@ status_of_done = codes "200 OK"
 abbrev pub text_type : List ℕ
 text_type = codes "text/plain; charset=utf-8"
 
+-- the type of a body in JSON
 abbrev pub json_type : List ℕ
 json_type = codes "application/json"
 

@@ -1,4 +1,8 @@
 //! A call, as it is sent.
+//!
+//! Whoever makes the bytes of a call also sends them, so a call is made once the connection is there. 40 is answered
+//! only if nothing was sent: after a part was sent nobody knows what was done, and the answer is 45, which is safe to
+//! repeat.
 
 ghost use Rattle.std.specs.Prelude.{◌≡◌, IfOk, string_bytes};
 ghost use Rattle.treasury_client.specs.Sending.{accept, call_text};

@@ -1,4 +1,7 @@
 //! A journal, as a JSON text can have it.
+//!
+//! JSON has UTF-8 alone. Instead of refusing such a journal here, which would name the wrong line if an earlier one is
+//! faulty, a control character is sent for each byte over 127: the service refuses that by 1, for the same line.
 
 ghost use Rattle.std.specs.Prelude.{◌≡◌, true, IfOk};
 ghost use Rattle.std.specs.Str.{is_utf8};

@@ -1,4 +1,8 @@
 //! The bytes of a reply, taken apart.
+//!
+//! A reply is exactly the bytes that a treasury sends: status line, `Content-Type`, `Content-Length`, `Connection:
+//! close`, in this order, and nothing after the body. So what is printed is a function of the bytes, and a reply that
+//! was cut off is none. Another head, as a later version may send, is refused with 45.
 
 ghost use Rattle.std.specs.Prelude.{◌≡◌, ◌≢◌, ◌<◌, ◌^◌, ◌↔◌, ◌++◌, ℕ, List, None, IfSome, MatchOption, IsTrue};
 ghost use Rattle.std.specs.Prelude.{length, decimal};

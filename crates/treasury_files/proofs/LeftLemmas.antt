@@ -46,7 +46,7 @@ use Rattle.treasury_files.specs.declared.left.Left.TheVariants.{Untouched, Close
 use Rattle.treasury_files.specs.Left.{HoldsRows, HaveRows, IsLeft, IsImageOf, IsCleanIn, MayBe, MayComeBack, AreSpared}
 use Rattle.treasury_files.specs.Left.{KeepsFile}
 use Rattle.treasury_files.specs.Started.{IsLeftBy, IsOpenedOn}
-use Rattle.treasury_files.specs.Leaving.{IsLeftOpen, IsLeftShut, IsLeftClosed, IsLeftRefused, IsAsked, unopened_as}
+use Rattle.treasury_files.specs.Leaving.{IsLeftOpen, IsLeftShut, IsLeftClosed, IsLeftRefused, IsAsked}
 
 -- two databases are one whose trees are the same
 pub same_database : (one other : Database) → IsDatabase one → IsDatabase other → one.trees ≡ other.trees → one ≡ other
@@ -399,14 +399,6 @@ module _ {D : Type 0} (g : disk.Ghosts D) where
           (λ both. (leaves clean trees may).1 holds.db.trees
           (subst (λ (i : Image). HoldsDatabase i holds.db.trees) (sym same) both)) in
           have_rows trees t (holds.db, holds.listed, is, holds.tables)
-
-  -- the same by what the opening hands back
-  pub keeps_unopened_as : (image : Image) (o : Option (Leftover D g)) (left : Left D g) → left ≡ unopened_as o
-      → IfSome o (λ unopened. (found : Files D) × (image_of g found ≡ image)
-      × (IsCleanLeft unopened → LeavesFiles found unopened)) → KeepsFile g image left
-  keeps_unopened_as image None left is none = keeps_untouched image left is
-  keeps_unopened_as image (Some unopened) left is (found, same, leaves) =
-      subst (KeepsFile g image) (sym is) (keeps_unopened image unopened found same leaves)
 
   module _ (stays : SeenMayStay g) where
     -- a database in which no tables were made: because they are there, or they are not

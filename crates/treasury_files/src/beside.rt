@@ -11,6 +11,8 @@ use std::io::ErrorKind;
 /// How a database file begins.
 const MAGIC: &[u8] = b"SQLite format 3\0";
 
+const MAGIC_LEN: u64 = 16;
+
 /// The bytes of the page that `init` begins a file with.
 const FIRST_PAGE: u64 = 4096;
 
@@ -110,14 +112,14 @@ pub fn has_log(rt: &HostRuntime, path: &str) -> bool {
     }
 }
 
-/// The first bytes of a file, at most 16.
-fn head_of(rt: &HostRuntime, path: &str) -> Result<Vec<u8>, Unopened> {
+/// The first bytes of a file, at most so many.
+pub fn head_of(rt: &HostRuntime, path: &str, most: u64) -> Result<Vec<u8>, Unopened> {
     let file = match fs::open(rt, path) {
         Ok(file) => file,
         Err(error) if error.kind() == ErrorKind::OutOfMemory => return Err(Unopened::NoMemory),
         Err(_) => return Err(Unopened::Unusable(CANNOT_OPEN)),
     };
-    match read_at_most(rt.alloc(), file, 16) {
+    match read_at_most(rt.alloc(), file, most) {
         Ok(bytes) => Ok(bytes),
         Err(Cause::OutOfMemory) => Err(Unopened::NoMemory),
         Err(_) => Err(Unopened::Unusable(CANNOT_OPEN)),
@@ -127,7 +129,7 @@ fn head_of(rt: &HostRuntime, path: &str) -> Result<Vec<u8>, Unopened> {
 /// What a file of `size` bytes is, by a look at its first bytes and at its log: 41 where it does not begin as a
 /// database.
 pub fn look_beside(rt: &HostRuntime, path: &str, size: u64) -> Result<Look, Unopened> {
-    let head = match head_of(rt, path) {
+    let head = match head_of(rt, path, MAGIC_LEN) {
         Ok(head) => head,
         Err(unopened) => return Err(unopened),
     };

@@ -20,16 +20,16 @@ ghost use Rattle.treasury_files.specs.Left.{KeepsFile};
 ghost use Rattle.treasury_files.specs.InFile.{MakesOver, most_journal};
 ghost use Rattle.treasury_files.specs.Started.{cause_of_why, IsUnserved, IsOpenedOn, StartsOn, IsStarted};
 ghost use Rattle.treasury_files.specs.Started.{IsClosedAs, IsStillOpen, IsLeftAs};
-ghost use Rattle.treasury_files.specs.Leaving.{unopened_as};
 ghost use Rattle.treasury_files.specs.Leaving.{IsLeftOpen, IsLeftClosed, IsLeftRefused, IsAsked};
 
 use crate::beside::{Look, has_log, look_beside};
 use crate::left::{Left, close, leave};
+use crate::opening::{open_files, options_for};
 use crate::others::{note_of, say_note};
 use crate::rehearsal::{rehearse, rehearse_alone, why_not_made};
 use crate::tables::{check_tables, has_receipts, is_taken};
 use money_core::Cause;
-use sqlite::{Alter, Connection, Error, ErrorCode, FileFrom, FileStore, Files, Leftover, Start};
+use sqlite::{Alter, Connection, Error, ErrorCode, FileFrom, FileStore, Files, Start};
 use sqlite_disk::Disk;
 use sqlite_schema::schema::Schema;
 use std::alloc::Global;
@@ -195,14 +195,12 @@ fn look_at_new(rt: &HostRuntime, path: &str) -> Result<(), Unopened> {
     }
 }
 
-/// Why a file was not opened: never by 43.
+/// Why a file is not opened as a database: never by 43.
 fn why_unopened(error: Error) -> Unopened
     ensures { cause_of_why result ≡ Cause.Damaged → ⊥ }
 {
     match error {
         Error::SqliteFailure(ErrorCode::OutOfMemory) => Unopened::NoMemory,
-        Error::SqliteFailure(ErrorCode::DatabaseBusy) => Unopened::Unusable(IN_USE),
-        Error::SqliteFailure(ErrorCode::CannotOpen) => Unopened::Unusable(CANNOT_OPEN),
         Error::SqliteFailure(ErrorCode::NotADatabase) => {
             Unopened::Unusable("the file is not an SQLite database whose rows obey its schema")
         }
@@ -214,21 +212,12 @@ fn why_unopened(error: Error) -> Unopened
 
 /// A file that was not opened.
 fn untouched<D: Disk>(why: Unopened) -> Unserved<D>
-    ensures { result.left ≡ Untouched }
+    ensures why { result.why ≡ why }
+    ensures left { result.left ≡ Untouched }
 {
     Unserved {
         why,
         left: Left::Untouched,
-    }
-}
-
-/// What is left of a file whose opening failed.
-fn left_unopened<D: Disk>(left: Option<Leftover<D>>) -> Left<D>
-    ensures { result ≡ unopened_as left }
-{
-    match left {
-        Some(rest) => Left::Unopened(rest),
-        None => Left::Untouched,
     }
 }
 
@@ -243,11 +232,19 @@ fn connect<S: Start>(
     ensures refused { IfErr result (λ r. KeepsFile ⟦<FileFrom<S> as Disk>⟧ (image_at S.Start) r.left) }
     ensures never { IfErr result (λ r. cause_of_why r.why ≡ Cause.Damaged → ⊥) }
 {
-    match Connection::open_from(rt, path, false, start) {
+    let options = match options_for(rt, path) {
+        Ok(options) => options,
+        Err(why) => return Err(untouched(why)),
+    };
+    let files = match open_files(rt, path, start) {
+        Ok(files) => files,
+        Err(why) => return Err(untouched(why)),
+    };
+    match Connection::open_files_with(rt.alloc(), files, options, false) {
         Ok(conn) => Ok(conn),
-        Err((error, left)) => Err(Unserved {
+        Err((error, rest)) => Err(Unserved {
             why: why_unopened(error),
-            left: left_unopened(left),
+            left: Left::Unopened(rest),
         }),
     }
 }

@@ -6,6 +6,7 @@ mod file;
 mod laws;
 mod left;
 mod looks;
+mod opening;
 mod others;
 mod rehearsal;
 mod shrinking;

@@ -1,4 +1,8 @@
 //! A file in memory that no crash reaches: it keeps its bytes alone, and a sync does nothing.
+//!
+//! A run uses the kit's store over files, and not its store in memory, which keeps each tree as one sorted list: a row
+//! that comes out of order moves all rows after it. These files provably return what was written, and take their
+//! memory when they are made, so that running out of it shows in a statement, which rolls back, and seldom in a file.
 
 ghost use Rattle.std.specs.Prelude.{◌≡◌, ◌+◌, ◌≤◌, ◌<◌, [], length, take, drop, true, false, refl, is_ok, IfOk, OnOk};
 ghost use Rattle.std.specs.Prelude.{OnErr, vec_capacity};

@@ -6,8 +6,8 @@ use Rattle.treasury_files.proofs.file.open_treasury.Goals as goal
 
 pub returns-in-Err : goal.returns-in-Err
 returns-in-Err g c = record {
-  keeps = keeps_untouched _ (image_at g.S.Start) _ c.untouched.ensures;
-  reason = λ is. inl c.untouched.ensures;
+  keeps = keeps_untouched _ (image_at g.S.Start) _ c.untouched.ensures.left;
+  reason = λ is. inl c.untouched.ensures.left;
 }
 
 pub returns-in-Err-connect : goal.returns-in-Err-connect
