@@ -303,6 +303,16 @@ def definitions(folder):
             yield os.path.basename(file)[:-5], file, read(file)
 
 
+def modules_listed(folder):
+    """The modules that specs/Lib.antt of a crate lists, in its order, each with whether it mirrors code."""
+    file, heading = f"{folder}/specs/Lib.antt", ""
+    for line in read(file).split("\n") if os.path.exists(file) else ():
+        if line.startswith("--"):
+            heading = line
+        elif line.startswith("pub mod "):
+            yield line.split()[2], "mirrors code" in heading
+
+
 def folders():
     """The folders of all crates."""
     return sorted(it[:-4] for it in glob.glob("crates/*/src"))

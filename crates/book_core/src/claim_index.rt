@@ -1,4 +1,7 @@
 //! Where the assertions of a book stand, by account.
+//!
+//! Assertions that look at one account and those that take in subaccounts are kept apart, so that a late leg passes
+//! over the `=` and `==` of the accounts above its own, which it cannot change.
 
 ghost use Rattle.std.specs.Prelude.{◌≡◌, ℕ, List, [], true, Contains, IfOk, OnOk};
 ghost use Rattle.std.specs.Result.{IsOkUnless};

@@ -1,4 +1,7 @@
 //! New entries that come after a book.
+//!
+//! From 64 new entries and 64 reached assertions on, they are summed as a book of their own, so that an import that
+//! asserts at every entry does not cost its square. For fewer, a pass over them costs less than the sums.
 
 ghost use Rattle.std.specs.Prelude.{◌≡◌, ◌+◌, ◌<◌, ◌^◌, List, length, IfOk};
 ghost use Rattle.std.specs.Result.{IsOkUnless};

@@ -1,4 +1,7 @@
 //! The sums of one entry's legs, by which the entry's own assertions are judged where it has many.
+//!
+//! From 128 places of one entry on, each leg counts as an entry of its own (`AreSums` of single legs), and a balance
+//! is that before the entry plus one search. Otherwise n assertions of one entry, as a closing has them, cost n^2.
 
 ghost use Rattle.std.specs.Prelude.{◌≡◌, ◌+◌, ◌≤◌, ◌<◌, length, min, take, OnOk, IfOk};
 ghost use Rattle.std.specs.Result.{IsOkUnless};

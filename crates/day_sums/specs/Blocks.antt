@@ -22,6 +22,7 @@ Spread = List Point × List (ℤ × List Point)
 abbrev pub block_of : ℤ → ℤ
 block_of d = int_div_euclid d (pos 2048)
 
+-- the last day of a block
 abbrev pub last_of : ℤ → ℤ
 last_of (pos k) = pos (k * 2048 + 2047)
 last_of (negsuc k) = negsuc (k * 2048)

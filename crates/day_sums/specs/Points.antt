@@ -42,12 +42,15 @@ pub record RaisedPoints (at q : ℤ) (old new : List Point) : Type 0 where
 
 -- ---- what mirrors code
 
+-- the point is before the day
 abbrev pub is_point_before : ℤ → Point → Bool
 is_point_before d p = int_lt p.at d
 
+-- the point is on the day or before it
 abbrev pub is_through : ℤ → Point → Bool
 is_through d p = int_le p.at d
 
+-- a point for places that have none
 abbrev pub blank_point : Point
 blank_point = record { at = pos 0; sum = pos 0 }
 
@@ -59,6 +62,7 @@ base_at z ps k = if nat_eq k 0 then z else (slice_index_or ps (k - 1) blank_poin
 abbrev pub is_there : ℤ → List Point → ℕ → Bool
 is_there d ps k = nat_lt k (length ps) && int_eq (slice_index_or ps k blank_point).at d
 
+-- the point with its sum raised by q
 abbrev pub more : ℤ → Point → Point
 more q p = record { at = p.at; sum = p.sum +ℤ q }
 

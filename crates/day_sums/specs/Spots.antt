@@ -30,6 +30,7 @@ KeepsSpots old new = (a : List ℕ) (s : Spot) → Contains (spots_of old a) s �
 
 -- ---- what mirrors code
 
+-- a spot for places that have none
 abbrev pub blank_spot : Spot
 blank_spot = record { day = record { 0 = pos 0 }; number = 0; part = 0 }
 

@@ -24,6 +24,7 @@ KeptByName = HashMap (Vec ℕ Global) Kept (BuildHasherDefault FoldHasher)
 abbrev pub row_at : KeptByName → List ℕ → Kept
 row_at names a = unwrap_or (get_by (λ k. bytes_eq a k.items) names) no_row
 
+-- the row of an account in a commodity; empty if there is none
 abbrev pub look : DaySums → List ℕ → Commodity → Kept
 look rows a u = option_map_or (λ names. row_at names a) (get nat_cmp rows.units u.0) no_row
 

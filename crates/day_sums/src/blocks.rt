@@ -1,4 +1,8 @@
 //! The sums through days, in blocks of days.
+//!
+//! With one list, a day before n others moves and raises n sums, and entries in no order of days cost n^1.5 and more.
+//! In blocks of 2,048 days, a day costs at most 2,048 steps in its block and one for each later block, 18 in a
+//! century. A tree of sums would need a proof of its own.
 
 ghost use Rattle.std.specs.Prelude.{◌≡◌, pos, ℤ, [], true, OnOk, IfOk};
 ghost use Rattle.std.specs.Result.{IsOkUnless};

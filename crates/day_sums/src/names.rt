@@ -1,4 +1,7 @@
 //! The rows of one commodity, by account.
+//!
+//! By the hash of the name: inserting into a sorted list moves every later row, and no query goes through the names in
+//! order. A transaction of two postings looks up its rows twelve times.
 
 ghost use Rattle.std.specs.Prelude.{◌≡◌, ℕ, List, true, false, OnOk};
 ghost use Rattle.std.specs.Result.{IsOkUnless};

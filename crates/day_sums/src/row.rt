@@ -1,4 +1,9 @@
 //! The running sums of one account in one commodity.
+//!
+//! The first quantity is in the row itself: accounts of many parts make a row for each account above them, half a
+//! million in a journal of 1 MiB, and nearly all have one quantity. Besides the sums through its days, a row has the
+//! sums of each day's own quantities in the order of their entries, because on an assertion's own day only what comes
+//! before it counts.
 
 ghost use Rattle.std.specs.Prelude.{◌≡◌, [], true, OnOk};
 ghost use Rattle.std.specs.Result.{IsOkUnless};

@@ -25,6 +25,7 @@ abbrev pub is_json_in : List (List ℕ) → Bool
 is_json_in [] = false
 is_json_in (type ∷ parameters) = is_json_type type && not (list_any is_nought parameters)
 
+-- a media range asks for JSON, and none of its parameters says no
 unfoldable pub is_json_range : List ℕ → Bool
 is_json_range range = is_json_in (slice_split (λ b. b == 59) range)
 

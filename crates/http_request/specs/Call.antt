@@ -36,6 +36,7 @@ pub record Leads (seen : List ℕ) (head : RequestHead) (rest : List ℕ) (route
   pub own : is_foreign_head head ≡ false
   pub leads : LeadsTo head.method (path_of head.target) route
 
+-- the bytes begin with some such head that leads to this route
 abbrev pub LeadTo : List ℕ → Routed → Type 0
 LeadTo seen route = (head : RequestHead) × (rest : List ℕ) × Leads seen head rest route
 

@@ -34,6 +34,7 @@ abbrev pub is_query_key : List ℕ → Option (List ℕ) → Bool
 is_query_key key None = false
 is_query_key key (Some name) = bytes_eq name key
 
+-- a piece of a query has this key before its first `=`
 abbrev pub has_query_key : List ℕ → List ℕ → Bool
 has_query_key key piece =
     list_any (λ b. b == 61) piece && is_query_key key (decoded (before_first (λ b. b == 61) piece))

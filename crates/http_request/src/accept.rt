@@ -1,4 +1,6 @@
 //! In which form a request asks for its reply.
+//!
+//! Only `application/json` counts, and not `*/*`: browsers and curl send that, and should see no change.
 
 ghost use Rattle.std.specs.Prelude.{◌≡◌, ◌==◌, ◌&&◌, ◌∷◌, length, map, All, codes};
 ghost use Rattle.std.specs.List.{list_any, slice_split};

@@ -1,4 +1,9 @@
 //! The head of a request, read from a connection.
+//!
+//! RFC 9112 leaves choices: lines may end in LF alone, empty lines may come first and count for the limit, and a
+//! target is any UTF-8 without spaces and ASCII control characters, so that an unknown branch is refused by the rules
+//! however it is written. A name with a blank after it, or a line that begins with one, could be misunderstood, and is
+//! refused.
 
 ghost use Rattle.std.specs.Prelude.{◌≡◌, ◌⊎◌, ◌++◌, ◌∷◌, ℕ, List, [], None, Err, length, map, IfOk, IfErr, MatchOption};
 ghost use Rattle.std.specs.Prelude.{MatchBool};

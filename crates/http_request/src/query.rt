@@ -1,4 +1,9 @@
 //! The query of a request's target, and the keys of a register.
+//!
+//! `&` and `%` have to be told from what divides a query, so keys and values are percent-decoded (RFC 3986). A `+` is
+//! a plus: forms write a blank so, but an account may have a `+`, and a query is no form. An unknown key is refused,
+//! since a misspelt `tag` would show more than was asked for; so is one that is there twice, since nobody can say
+//! which counts.
 
 ghost use Rattle.std.specs.Prelude.{◌≡◌, ◌∷◌, [], IfOk, codes};
 ghost use Rattle.std.specs.Result.{IsOkUnless};

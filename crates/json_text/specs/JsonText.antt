@@ -42,6 +42,7 @@ pub data Held : Type 0 where
   strings : List (List ℕ) → Held
   rows : List (List (List ℕ)) → Held
 
+-- the JSON text of what an object has at a key
 abbrev pub held_text : Held → List ℕ
 held_text (string text) = quoted text
 held_text (strings texts) = strings_text texts

@@ -71,15 +71,18 @@ dispatch_at d =
     (text_at (codes "amount") d))
     (day_at (codes "day") d)) (text_at (codes "to") d)) (text_at (codes "from") d)) (text_at (codes "id") d)
 
+-- the request of a receipt of all that is left
 abbrev pub receive_at : Data → Option Request
 receive_at d =
     option_and_then (λ id. option_and_then (λ branch. option_and_then (λ day.
     option_map (λ account. Receive id branch day account None) (text_at (codes "account") d))
     (day_at (codes "day") d)) (text_at (codes "branch") d)) (text_at (codes "id") d)
 
+-- a part, by its key and its amount
 abbrev pub written_part : List ℕ → List ℕ → WrittenPart
 written_part key amount = record { key = key; amount = amount }
 
+-- the request of a receipt of a part
 abbrev pub part_at : Data → Option Request
 part_at d =
     option_and_then (λ id. option_and_then (λ branch.
@@ -93,16 +96,19 @@ abbrev pub close_at : Data → Option Request
 close_at d = option_and_then (λ branch. option_map (λ day. Close branch day None None) (day_at (codes "day") d))
     (text_at (codes "branch") d)
 
+-- the request of a closing with one of the two keys
 abbrev pub one_chosen : List ℕ → Day → Option (List ℕ) → Option (List ℕ) → Option Request
 one_chosen branch day (Some names) into = Some (Close branch day (Some names) None)
 one_chosen branch day None into = option_map (λ account. Close branch day None (Some account)) into
 
+-- the same, read from its members
 abbrev pub chosen_at : Data → Option Request
 chosen_at d =
     option_and_then (λ branch. option_and_then (λ day.
     one_chosen branch day (text_at (codes "accounts") d) (text_at (codes "into") d))
     (day_at (codes "day") d)) (text_at (codes "branch") d)
 
+-- the request of a closing with both keys
 abbrev pub both_at : Data → Option Request
 both_at d =
     option_and_then (λ branch. option_and_then (λ day. option_and_then (λ names.
@@ -115,6 +121,7 @@ register_at d =
     option_and_then (λ branch. option_map (λ account. Register branch account None) (text_at (codes "account") d))
     (text_at (codes "branch") d)
 
+-- the request of a register with a tag
 abbrev pub tagged_at : Data → Option Request
 tagged_at d =
     option_and_then (λ branch. option_and_then (λ account.
@@ -199,6 +206,7 @@ branch_asked (Lock branch day) = Some branch
 branch_asked (Close branch day accounts into) = Some branch
 branch_asked _ = None
 
+-- the request is a command on a branch's book
 abbrev pub is_on_a_book : Request → Bool
 is_on_a_book request = is_some (branch_asked request)
 

@@ -44,9 +44,11 @@ odd_kind (object ms) = Some kind.Object
 abbrev pub value_at : Data → Key → Option Data
 value_at d k = get (key_name k) d
 
+-- there is a value at the key
 abbrev pub has_member : Data → Key → Bool
 has_member d k = is_some (value_at d k)
 
+-- there is none
 abbrev pub lacks_key : Data → Key → Bool
 lacks_key d k = not (has_member d k)
 
@@ -66,6 +68,7 @@ is_key_named name k = bytes_eq (key_name k) name
 abbrev pub may_have : Word → List ℕ → Bool
 may_have w name = is_key_named name key.Do || list_any (is_key_named name) (keys_of w)
 
+-- the request of a word may not have a key that is written so
 abbrev pub is_other_key : Word → List ℕ → Bool
 is_other_key w name = not (may_have w name)
 
@@ -78,6 +81,7 @@ abbrev pub names_in : Members → List (List ℕ)
 names_in no_members = []
 names_in (member name d ms) = name ∷ names_in ms
 
+-- the keys of a value; none if it is no object
 abbrev pub member_names : Data → List (List ℕ)
 member_names null = []
 member_names (boolean b) = []
@@ -98,12 +102,15 @@ missing_fault w d = option_map (λ k. by.MissingKey w k (other_key w d)) (find (
 abbrev pub odd_fault_at : Data → Key → Option RequestFault
 odd_fault_at d k = option_map (by.ValueOfKind k) (odd_kind_at d k)
 
+-- the value at the key is no string
 abbrev pub is_odd : Data → Key → Bool
 is_odd d k = is_some (odd_kind_at d k)
 
+-- the first of these keys whose value is no string
 abbrev pub odd_fault_in : Data → List Key → Option RequestFault
 odd_fault_in d ks = option_and_then (odd_fault_at d) (find (is_odd d) ks)
 
+-- the same of the keys that a word needs, and then of those that it may have
 abbrev pub odd_fault : Word → Data → Option RequestFault
 odd_fault w d = option_or (odd_fault_in d (needed w)) (odd_fault_in d (further w))
 
@@ -115,6 +122,7 @@ own_text_at w d k = if may_have w (key_name k) then text_at (key_name k) d else 
 abbrev pub date_fault_in : List ℕ → Option RequestFault
 date_fault_in text = if is_some (date_of text) then None else Some (by.NoDate text)
 
+-- the day of the request is no date
 abbrev pub date_fault : Word → Data → Option RequestFault
 date_fault w d = option_and_then date_fault_in (own_text_at w d key.Day)
 
@@ -125,10 +133,12 @@ half_of other true false = Some (by.Half key.Part key.Amount other)
 half_of other false true = Some (by.Half key.Amount key.Part other)
 half_of other false false = None
 
+-- the word is that of a receipt
 abbrev pub is_receipt : Word → Bool
 is_receipt word.Receive = true
 is_receipt _ = false
 
+-- a receipt has only one of `part` and `amount`
 abbrev pub half_fault : Word → Data → Option RequestFault
 half_fault w d =
     if is_receipt w then half_of (other_key w d) (has_member d key.Part) (has_member d key.Amount) else None
@@ -137,6 +147,7 @@ half_fault w d =
 abbrev pub choice_fault_in : List ℕ → Option RequestFault
 choice_fault_in text = if is_some (yes_or_no text) then None else Some (by.NoChoice text)
 
+-- the value of `dry-run` is neither yes nor no
 abbrev pub choice_fault : Word → Data → Option RequestFault
 choice_fault w d = option_and_then choice_fault_in (own_text_at w d key.DryRun)
 
@@ -144,6 +155,7 @@ choice_fault w d = option_and_then choice_fault_in (own_text_at w d key.DryRun)
 abbrev pub count_fault_in : List ℕ → Option RequestFault
 count_fault_in text = if is_some (entry_count text) then None else Some (by.NoCount text)
 
+-- the value of `if-entries` is no count
 abbrev pub count_fault : Word → Data → Option RequestFault
 count_fault w d = option_and_then count_fault_in (own_text_at w d key.IfEntries)
 

@@ -23,6 +23,7 @@ abbrev pub with_all : App → List Shape → App
 with_all a [] = a
 with_all a (s ∷ ss) = with_all (with_subcommand a s) ss
 
+-- the new command is the old one with these subcommands after its own
 pub record HasMore (shapes : List Shape) (old new : Command) : Type 0 where
   pub app : app_of new ≡ with_all (app_of old) shapes
 

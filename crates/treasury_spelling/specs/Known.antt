@@ -10,6 +10,7 @@ use Rattle.clap.specs.declared.builder.action.ArgAction.TheVariants.{SetTrue}
 abbrev pub optional : List ℕ → Rule
 optional name = record (new_rule name) { long = Some name; value_names = 1 }
 
+-- an option that has to be given
 abbrev pub option : List ℕ → Rule
 option name = record (optional name) { required = true }
 
@@ -17,9 +18,11 @@ option name = record (optional name) { required = true }
 abbrev pub optional_number : List ℕ → ℕ → Rule
 optional_number name most = record (optional name) { parser = Some (Signed (pos 0) (pos most)) }
 
+-- an option with a whole number up to the most that has to be given
 abbrev pub number : List ℕ → ℕ → Rule
 number name most = record (option name) { parser = Some (Signed (pos 0) (pos most)) }
 
+-- a value without an option's name that has to be given
 abbrev pub operand : List ℕ → Rule
 operand name = record (new_rule name) { value_names = 1; required = true }
 
@@ -43,12 +46,15 @@ placed_shape name rules = record (new_shape name) { rules = optional (codes "db"
 abbrev pub branch : Rule
 branch = option (codes "branch")
 
+-- `--day DAY`
 abbrev pub day : Rule
 day = option (codes "day")
 
+-- `--account ACCOUNT`
 abbrev pub account : Rule
 account = option (codes "account")
 
+-- `--id ID`
 abbrev pub id : Rule
 id = option (codes "id")
 
@@ -56,6 +62,7 @@ id = option (codes "id")
 abbrev pub dry_run : Rule
 dry_run = flag (codes "dry-run")
 
+-- `--if-entries N`
 abbrev pub if_entries : Rule
 if_entries = optional (codes "if-entries")
 

@@ -39,9 +39,11 @@ part_spelled None (Some amount) = None
 part_spelled (Some key) None = None
 part_spelled (Some key) (Some amount) = Some (Some (written_part key amount))
 
+-- the part that the values spell; none if only one of its two values is given
 abbrev pub part_in : List Row → Option (Option WrittenPart)
 part_in rows = part_spelled (first_of (codes "part") rows) (first_of (codes "amount") rows)
 
+-- the request of a receipt that the values spell
 abbrev pub receive_in : List Row → Option Request
 receive_in rows =
     option_and_then (λ id. option_and_then (λ branch. option_and_then (λ day. option_and_then (λ account.

@@ -16,7 +16,7 @@ use clap::{Arg, ArgAction, Command, value_parser};
 use std::alloc::{AllocError, Global};
 
 /// The version that `--version` shows.
-const VERSION: &str = "0.11.0";
+const VERSION: &str = "0.12.0";
 
 /// What the program is for.
 const ABOUT: &str = "Keeps the books of a federation of branches in a database file.";

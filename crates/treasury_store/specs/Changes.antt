@@ -69,6 +69,7 @@ changes_from styles names n [] = []
 changes_from styles names n (x ∷ xs) =
     changes_by styles names n x ++ changes_from styles names (counts_after names n x) xs
 
+-- the numbers after a list of additions
 abbrev pub counts_after_all : List (List ℕ) → Counts → List Addition → Counts
 counts_after_all names n [] = n
 counts_after_all names n (x ∷ xs) = counts_after_all names (counts_after names n x) xs
@@ -78,14 +79,17 @@ abbrev pub styles_with_one : List Style → Addition → List Style
 styles_with_one styles (add.Commodity style) = styles ++ style ∷ []
 styles_with_one styles _ = styles
 
+-- the names of the branches, with the one that is added
 abbrev pub names_with_one : List (List ℕ) → Addition → List (List ℕ)
 names_with_one names (add.Branch name) = names ++ name ∷ []
 names_with_one names _ = names
 
+-- the styles, with those that are added
 abbrev pub styles_with : List Style → List Addition → List Style
 styles_with styles [] = styles
 styles_with styles (x ∷ xs) = styles_with (styles_with_one styles x) xs
 
+-- the names of the branches, with those that are added
 abbrev pub names_with : List (List ℕ) → List Addition → List (List ℕ)
 names_with names [] = names
 names_with names (x ∷ xs) = names_with (names_with_one names x) xs
@@ -98,6 +102,7 @@ counts_of_numbering n = record { units = length n.styles; records = n.records }
 abbrev pub changes_of : Numbering → List Addition → List Change
 changes_of n xs = changes_from (styles_with n.styles xs) (names_with n.names xs) (counts_of_numbering n) xs
 
+-- the numbers after additions are written
 abbrev pub numbers_with : Numbering → List Addition → Numbering
 numbers_with n xs = record {
   styles = styles_with n.styles xs;
@@ -112,6 +117,7 @@ pub record IsWritable (styles : List Style) (n : ℕ) (r : Record) : Type 0 wher
   pub few : n < 2 ^ 32
   pub claims : AllByRecursion (λ (x : Placed). x.leg ≤ length r.entry.legs) r.entry.claims
 
+-- an addition can be written
 abbrev pub CanWrite : List Style → List (List ℕ) → Counts → Addition → Type 0
 CanWrite styles names n (add.Commodity style) = n.units < 2 ^ 32
 CanWrite styles names n (add.Branch name) = ⊤
@@ -121,6 +127,7 @@ CanWrite styles names n (add.Dispatched t) = ⊤
 CanWrite styles names n (add.Received id p) = ⊤
 CanWrite styles names n (add.Locked name day) = ⊤
 
+-- each addition of a list can be written, one after another
 abbrev pub CanWriteFrom : List Style → List (List ℕ) → Counts → List Addition → Type 0
 CanWriteFrom styles names n [] = ⊤
 CanWriteFrom styles names n (x ∷ xs) = CanWrite styles names n x × CanWriteFrom styles names (counts_after names n x) xs

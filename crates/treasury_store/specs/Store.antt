@@ -40,6 +40,7 @@ Finds f (add.Dispatched t) = t.parts ≡ []
 Finds f (add.Received id p) = is_all p.key ≡ false → list_any (has_id id) f.transfers ≡ true
 Finds f (add.Locked name day) = ⊤
 
+-- the same of each addition of a list, in the state that the ones before it make
 abbrev pub FindsAll : Federation → List Addition → Type 0
 FindsAll f [] = ⊤
 FindsAll f (x ∷ xs) = Finds f x × FindsAll (joined_one f x) xs

@@ -17,6 +17,7 @@ use Rattle.sqlite_trees.specs.declared.store.Shape.TheVariants as shape
 use Rattle.treasury_tables.specs.Kept.{IsFaithful}
 use Rattle.treasury_tables.specs.Tables.{format_table, state_tables, made_all, new_tables}
 
+-- the names of the eight tables
 abbrev pub our_names : List (List ℕ)
 our_names = codes "format" ∷ codes "unit" ∷ codes "branch" ∷ codes "entry" ∷ codes "leg" ∷ codes "claim"
     ∷ codes "transfer" ∷ codes "receipt" ∷ []

@@ -4,18 +4,22 @@ use Rattle.treasury_tables.specs.declared.change.Change.{Change}
 use Rattle.treasury_tables.specs.declared.change.Change.TheVariants as change
 use Rattle.treasury_tables.specs.declared.tables.eight.Eight.{Eight}
 
+-- the change adds the row of an entry
 abbrev pub is_entry : Change → Bool
 is_entry (change.Entry e) = true
 is_entry _ = false
 
+-- the change adds the row of a leg
 abbrev pub is_leg : Change → Bool
 is_leg (change.Leg l) = true
 is_leg _ = false
 
+-- the change adds the row of an assertion
 abbrev pub is_claim : Change → Bool
 is_claim (change.Claim c) = true
 is_claim _ = false
 
+-- the change is written by a statement of its own
 abbrev pub is_single : Change → Bool
 is_single (change.Entry e) = false
 is_single (change.Leg l) = false

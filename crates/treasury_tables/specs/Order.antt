@@ -14,24 +14,31 @@ use Rattle.treasury_state.specs.declared.rows.TransferRow.{TransferRow}
 use Rattle.treasury_state.specs.declared.rows.PartRow.{PartRow}
 use Rattle.treasury_tables.specs.Rows.{Tables}
 
+-- commodities by number
 abbrev pub unit_cmp : UnitRow → UnitRow → Ordering
 unit_cmp = on (λ u. u.nr) int_cmp
 
+-- branches by number
 abbrev pub branch_cmp : BranchRow → BranchRow → Ordering
 branch_cmp = on (λ b. b.nr) int_cmp
 
+-- entries by branch and number
 abbrev pub entry_cmp : EntryRow → EntryRow → Ordering
 entry_cmp = then_cmp (on (λ e. e.branch) int_cmp) (on (λ e. e.nr) int_cmp)
 
+-- legs by branch, entry and number
 abbrev pub leg_cmp : LegRow → LegRow → Ordering
 leg_cmp = then_cmp (on (λ l. l.branch) int_cmp) (then_cmp (on (λ l. l.entry) int_cmp) (on (λ l. l.nr) int_cmp))
 
+-- assertions by branch, entry and leg
 abbrev pub claim_cmp : ClaimRow → ClaimRow → Ordering
 claim_cmp = then_cmp (on (λ c. c.branch) int_cmp) (then_cmp (on (λ c. c.entry) int_cmp) (on (λ c. c.leg) int_cmp))
 
+-- transfers by the bytes of their IDs
 abbrev pub transfer_cmp : TransferRow → TransferRow → Ordering
 transfer_cmp = on (λ x. x.id) (slice_cmp nat_cmp)
 
+-- receipts of parts by the bytes of the transfer's ID and of the key
 abbrev pub part_cmp : PartRow → PartRow → Ordering
 part_cmp = then_cmp (on (λ p. p.transfer) (slice_cmp nat_cmp)) (on (λ p. p.part) (slice_cmp nat_cmp))
 

@@ -45,6 +45,7 @@ module _ {S X : Type 0} (g : Ghosts S) (columns : X → Row) (front : Row → Ro
   GivesNext xs (Ok None) = HasReadAll g columns front sql first now xs
   GivesNext xs (Err e) = Queries {X = List X} g first now (Err e)
 
+  -- all rows are read; an error changes nothing
   abbrev pub GivesAll : Result (List X) Error → Type 0
   GivesAll (Ok xs) = HasReadAll g columns front sql first now xs
   GivesAll (Err e) = Queries {X = List X} g first now (Err e)

@@ -25,30 +25,38 @@ use Rattle.treasury_state.specs.declared.rows.PartRow.{PartRow}
 use Rattle.treasury_state.specs.declared.rows.Parts.{Parts}
 
 -- ---- the values of each row, column by column
+-- the row of `format`: version 2
 abbrev pub values_of_format : Row
 values_of_format = Int (pos 2) ∷ []
 
+-- the row of a commodity
 abbrev pub values_of_unit : UnitRow → Row
 values_of_unit u =
     Int u.nr ∷ Text u.symbol ∷ Int u.decimals ∷ Text u.mark ∷ Int u.grouped ∷ Int u.leftside ∷ Int u.spaced ∷ []
 
+-- the row of a branch
 abbrev pub values_of_branch : BranchRow → Row
 values_of_branch b = Int b.nr ∷ Text b.name ∷ or_null Int b.locked ∷ []
 
+-- the row of an entry
 abbrev pub values_of_entry : EntryRow → Row
 values_of_entry e = Int e.branch ∷ Int e.nr ∷ Int e.day ∷ Text e.mark ∷ Text e.body ∷ []
 
+-- the row of a leg
 abbrev pub values_of_leg : LegRow → Row
 values_of_leg l = Int l.branch ∷ Int l.entry ∷ Int l.nr ∷ Text l.account ∷ Int l.unit ∷ Int l.qty ∷ []
 
+-- the row of an assertion
 abbrev pub values_of_claim : ClaimRow → Row
 values_of_claim c = Int c.branch ∷ Int c.entry ∷ Int c.leg ∷ Int c.kind ∷ Int c.unit ∷ Int c.qty ∷ []
 
+-- the row of a transfer
 abbrev pub values_of_transfer : TransferRow → Row
 values_of_transfer x =
     Text x.id ∷ Int x.source ∷ Int x.target ∷ Int x.unit ∷ Int x.qty ∷ Int x.dispatched ∷ Text x.payer
     ∷ or_null Int x.received ∷ or_null Text x.payee ∷ []
 
+-- the row of a receipt of a part
 abbrev pub values_of_part : PartRow → Row
 values_of_part p = Text p.transfer ∷ Text p.part ∷ Int p.qty ∷ Int p.received ∷ Text p.payee ∷ []
 
@@ -56,6 +64,7 @@ values_of_part p = Text p.transfer ∷ Text p.part ∷ Int p.qty ∷ Int p.recei
 abbrev pub Tables : Type 0
 Tables = Parts
 
+-- no rows in any table
 abbrev pub no_rows : Tables
 no_rows = record { units = []; branches = []; entries = []; legs = []; claims = []; transfers = []; receipts = [] }
 
@@ -65,22 +74,28 @@ no_rows = record { units = []; branches = []; entries = []; legs = []; claims = 
 abbrev pub shown_unit : Row → Row
 shown_unit r = column r 0 ∷ column r 2 ∷ column r 3 ∷ column r 4 ∷ column r 5 ∷ column r 6 ∷ column r 7 ∷ []
 
+-- the same columns of a branch
 abbrev pub shown_branch : Row → Row
 shown_branch r = column r 0 ∷ column r 2 ∷ column r 3 ∷ []
 
+-- of an entry
 abbrev pub shown_entry : Row → Row
 shown_entry r = column r 1 ∷ column r 2 ∷ column r 3 ∷ column r 4 ∷ column r 5 ∷ []
 
+-- of a leg
 abbrev pub shown_leg : Row → Row
 shown_leg r = column r 1 ∷ column r 2 ∷ column r 3 ∷ column r 4 ∷ column r 5 ∷ column r 6 ∷ []
 
+-- of an assertion
 abbrev pub shown_claim : Row → Row
 shown_claim r = column r 1 ∷ column r 2 ∷ column r 3 ∷ column r 4 ∷ column r 5 ∷ column r 6 ∷ []
 
+-- of a transfer
 abbrev pub shown_transfer : Row → Row
 shown_transfer r = column r 1 ∷ column r 2 ∷ column r 3 ∷ column r 4 ∷ column r 5 ∷ column r 6 ∷ column r 7 ∷ column r 8
     ∷ column r 9 ∷ []
 
+-- of a receipt of a part
 abbrev pub shown_part : Row → Row
 shown_part r = column r 1 ∷ column r 2 ∷ column r 3 ∷ column r 4 ∷ column r 5 ∷ []
 
@@ -130,28 +145,36 @@ HoldsEither db t = HoldsTables db t ⊎ HoldsFirst db t
 abbrev pub AreTreesOf : Trees → Tables → Type 0
 AreTreesOf trees t = (db : Database) × (trees ≡ db.trees) × HoldsTables db t
 
+-- the trees of a database of version 1 that holds these rows
 abbrev pub AreFirstTreesOf : Trees → Tables → Type 0
 AreFirstTreesOf trees t = (db : Database) × (trees ≡ db.trees) × HoldsFirst db t
 
 -- ---- changes
+-- one commodity more
 abbrev pub tables_with_unit : UnitRow → Tables → Tables
 tables_with_unit u t = record t { units = u ∷ t.units }
 
+-- one branch more
 abbrev pub tables_with_branch : BranchRow → Tables → Tables
 tables_with_branch b t = record t { branches = b ∷ t.branches }
 
+-- one entry more
 abbrev pub tables_with_entry : EntryRow → Tables → Tables
 tables_with_entry e t = record t { entries = e ∷ t.entries }
 
+-- one leg more
 abbrev pub tables_with_leg : LegRow → Tables → Tables
 tables_with_leg l t = record t { legs = l ∷ t.legs }
 
+-- one assertion more
 abbrev pub tables_with_claim : ClaimRow → Tables → Tables
 tables_with_claim c t = record t { claims = c ∷ t.claims }
 
+-- one transfer more
 abbrev pub tables_with_transfer : TransferRow → Tables → Tables
 tables_with_transfer x t = record t { transfers = x ∷ t.transfers }
 
+-- one receipt of a part more
 abbrev pub tables_with_part : PartRow → Tables → Tables
 tables_with_part p t = record t { receipts = p ∷ t.receipts }
 
@@ -159,6 +182,7 @@ tables_with_part p t = record t { receipts = p ∷ t.receipts }
 abbrev pub row_locked : ℤ → ℤ → BranchRow → BranchRow
 row_locked nr day b = if int_eq b.nr nr then record b { locked = Some day } else b
 
+-- the branch of that number is locked through the day
 abbrev pub tables_with_lock : ℤ → ℤ → Tables → Tables
 tables_with_lock nr day t = record t { branches = map (row_locked nr day) t.branches }
 
@@ -166,9 +190,11 @@ tables_with_lock nr day t = record t { branches = map (row_locked nr day) t.bran
 abbrev pub row_received : List ℕ → ℤ → List ℕ → TransferRow → TransferRow
 row_received id day payee x = if bytes_eq x.id id then record x { received = Some day; payee = Some payee } else x
 
+-- the rest of the transfer of that ID is received on the day, into the account
 abbrev pub tables_with_receipt : List ℕ → ℤ → List ℕ → Tables → Tables
 tables_with_receipt id day payee t = record t { transfers = map (row_received id day payee) t.transfers }
 
+-- the rows after a change
 abbrev pub tables_changed : Change → Tables → Tables
 tables_changed (change.Unit u) t = tables_with_unit u t
 tables_changed (change.Branch b) t = tables_with_branch b t

@@ -1,4 +1,7 @@
 //! The rows of the tables, in order.
+//!
+//! Rows are read one after another, because the kit keeps the buffer of its longest answer until the connection is
+//! closed.
 
 ghost use Rattle.std.specs.Prelude.{◌≡◌, OnOk, IfOk};
 ghost use Rattle.sqlite.specs.State.{IsUnchanged};

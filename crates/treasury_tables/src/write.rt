@@ -1,4 +1,8 @@
 //! The writes of one command, in one transaction.
+//!
+//! Entries, legs and claims are written eight rows to a statement. Each statement costs a savepoint, a copy of each
+//! page that is written and a plan for each probe: eight rows saved 27 per cent of the kit's time for an import,
+//! sixty-four 30.
 
 ghost use Rattle.std.specs.Prelude.{◌≡◌, ◌<◌, ◌∷◌, [], length, filter, IfSome, IfNone, OnOk, OnErr, IsTrue};
 ghost use Rattle.sqlite_value.specs.Value.{owned};
