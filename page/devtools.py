@@ -40,6 +40,7 @@ class Browser:
         os.close(to_browser)
         os.close(from_browser)
         self.number, self.waiting, self.tabs, self.lock = 0, {}, {}, threading.Lock()
+        self.traces = queue.Queue()
         threading.Thread(target=self._listen, daemon=True).start()
 
     def _listen(self):
@@ -54,6 +55,8 @@ class Browser:
                     message = json.loads(one)
                     if "id" in message:
                         self.waiting.pop(message["id"]).put(message)
+                    elif message["method"] == "Tracing.tracingComplete":
+                        self.traces.put(message["params"]["stream"])
                     elif message.get("sessionId") in self.tabs:
                         self.tabs[message["sessionId"]].heard(message["method"], message["params"])
 
@@ -85,6 +88,23 @@ class Browser:
         for part in ("Page", "Runtime", "Network", "Log"):
             tab.call(part + ".enable")
         return tab
+
+    def longest_task(self, act):
+        """Does something; returns the longest task of a page meanwhile, in milliseconds of the processor's time, which
+        other programs on this machine do not take."""
+        self.call("Tracing.start", transferMode="ReturnAsStream", traceConfig={"includedCategories": ["toplevel"]})
+        act()
+        self.call("Tracing.end")
+        stream, text, is_whole = self.traces.get(timeout=PATIENCE), "", False
+        while not is_whole:
+            part = self.call("IO.read", handle=stream)
+            text, is_whole = text + part["data"], part["eof"]
+        self.call("IO.close", handle=stream)
+        events = json.loads(text)["traceEvents"]
+        pages = {(one["pid"], one["tid"]) for one in events
+                 if one.get("name") == "thread_name" and one["args"]["name"] == "CrRendererMain"}
+        return max((one["tdur"] for one in events if (one["pid"], one["tid"]) in pages and "tdur" in one),
+                   default=0) / 1000
 
     def close(self):
         """Ends the browser."""
@@ -153,6 +173,12 @@ class Tab:
             self.call("Input.dispatchKeyEvent", type="keyDown", key=key, windowsVirtualKeyCode=codes[key],
                       autoRepeat=at > 0, **({"text": "\r"} if key == "Enter" else {"text": " "} if key == " " else {}))
         self.call("Input.dispatchKeyEvent", type="keyUp", key=key, windowsVirtualKeyCode=codes[key])
+
+    def keys(self, text):
+        """Presses the keys of a text, as in a field for a day or a list of choices."""
+        for one in text:
+            for kind in ("keyDown", "keyUp"):
+                self.call("Input.dispatchKeyEvent", type=kind, key=one, **({"text": one} if kind == "keyDown" else {}))
 
     def click(self, selector, times=1):
         """Clicks an element with the mouse, `times` times in a row."""

@@ -84,8 +84,9 @@ class Between(socketserver.BaseRequestHandler):
     """Stands between nginx and the treasury. It counts what comes through, and cuts what the stand's `mode` says:
 
     pass; cut (nothing reaches the treasury); lose (the reply of a command is thrown away after the deed); slow (a reply
-    comes late); half (half a report comes); answer STATUS TEXT (somebody else answers, but for dry runs); always STATUS
-    TEXT (somebody else answers); deny PATH (of what begins so, it is 403); busy N (the next N requests are too many).
+    comes late, that of a deed when the mode is another one); half (half a report comes); answer STATUS TEXT (other
+    answers, but for dry runs); always STATUS TEXT (somebody else answers); deny PATH.. (of what begins so, it is 403);
+    busy N (the next N requests are too many).
     """
 
     def handle(self):
@@ -103,7 +104,7 @@ class Between(socketserver.BaseRequestHandler):
             self.request.sendall(b"HTTP/1.1 %s X\r\nContent-Type: application/json\r\nContent-Length: %d\r\n"
                                  b"Connection: close\r\n\r\n%s" % (status.encode(), len(text.encode()), text.encode()))
             return
-        denied = mode.startswith("deny ") and line.split()[1].startswith(mode[5:])
+        denied = mode.startswith("deny ") and line.split()[1].startswith(tuple(mode.split()[1:]))
         if denied or (mode.startswith("busy ") and mode != "busy 0"):
             if not denied:
                 stand.mode = f"busy {int(mode[5:]) - 1}"
@@ -119,6 +120,8 @@ class Between(socketserver.BaseRequestHandler):
                     break
                 reply += got
         if mode == "slow":
+            while is_deed and stand.mode == "slow":
+                time.sleep(0.05)
             time.sleep(1.5)
         if mode == "lose" and is_deed:
             return
@@ -148,7 +151,7 @@ class Elsewhere(socketserver.BaseRequestHandler):
 class Stand:
     """The treasury, nginx and the rest, with their files in a folder."""
 
-    PEOPLE = ("secretary", "anna", "bert", "carla")
+    PEOPLE = ("secretary", "anna", "bert", "carla", "emil")
     SOURCE = TOP / "examples" / "serve" / "treasury.nginx"
 
     def __init__(self, program, page, folder):
@@ -200,7 +203,8 @@ class Stand:
     def configuration(self):
         """Returns the configuration of examples/serve, with the places and ports of this stand."""
         text = self.SOURCE.read_text()
-        for old, new in (("listen 443 ssl;", f"listen 127.0.0.1:{self.tls} ssl;"), ("listen [::]:443 ssl;", ""),
+        for old, new in (("    carla      reader;", "    carla      reader;\n    emil       keeper:meadow;"),
+                         ("listen 443 ssl;", f"listen 127.0.0.1:{self.tls} ssl;"), ("listen [::]:443 ssl;", ""),
                          ("listen 80;", f"listen 127.0.0.1:{self.plain};"), ("listen [::]:80;", ""),
                          ("https://$server_name", f"https://$server_name:{self.tls}"),
                          (f"/etc/letsencrypt/live/{SITE}/", f"{self.folder}/"),

@@ -5,8 +5,12 @@
 const VIEWS = {};
 let view = { name: "", branch: "", day: today(), account: "", tag: "", id: "", from: "", to: "", of: "" };
 const KEYS = ["branch", "day", "account", "tag", "id", "from", "to", "of"];
-const link = (name, values) => `#${name}?` + new URLSearchParams(KEYS
-  .filter(key => values[key]).map(key => [key, values[key]]));
+// (a day that is today's is left out, so that tomorrow the link leads to tomorrow)
+function link(name, values) {
+  const asked = { day: view.day, ...values };
+  return `#${name}?` + new URLSearchParams(KEYS.filter(key => asked[key] && !(key === "day" && asked.day === today()))
+    .map(key => [key, asked[key]]));
+}
 function readAddress() {
   const [name, query] = location.hash.slice(1).split(/\?(.*)/s), asked = new URLSearchParams(query ?? "");
   const names = branches.map(one => one.name), own = /^keeper:([^,]*)/.exec(me.role)?.[1];
@@ -14,10 +18,10 @@ function readAddress() {
     .find(one => names.includes(one)) ?? "";
   const isDay = value => /^[0-9]{4}-[0-9]{2}-[0-9]{2}$/.test(value ?? "");
   const dayAt = (key, otherwise) => isDay(asked.get(key)) ? asked.get(key) : otherwise;
-  return { name: Object.hasOwn(VIEWS, name) ? name : "overview", branch, day: dayAt("day", view.day),
+  return { name: Object.hasOwn(VIEWS, name) ? name : "overview", branch, day: dayAt("day", today()),
     account: asked.get("account") ?? "", tag: asked.get("tag") ?? "", id: asked.get("id") ?? "",
-      from: dayAt("from", ""),
-    to: dayAt("to", ""), of: asked.get("of") === "all" ? "all" : "" };
+    from: dayAt("from", ""), to: dayAt("to", ""),
+    of: ["all", "reverse"].find(one => one === asked.get("of")) ?? "" };
 }
 function changeView() {
   const before = view;
@@ -42,8 +46,12 @@ function showFrame() {
     if (one.dataset.view === name) one.setAttribute("aria-current", "page");
     else one.removeAttribute("aria-current");
   }
-  $("side").classList.remove("is-open");
-  $("menu").setAttribute("aria-expanded", "false");
+  openMenu(!location.hash);
+}
+// On a telephone the page begins with its menu.
+function openMenu(isOpen) {
+  $("side").classList.toggle("is-open", isOpen);
+  $("menu").setAttribute("aria-expanded", String(isOpen));
 }
 function show() {
   const { hasBranch, show: showIt } = VIEWS[view.name];
@@ -79,12 +87,16 @@ function showTexts() {
   hush();
   showPendings();
 }
-// Whoever may only read is offered nothing else. That it is so is the server's business.
+// Whoever may only read is offered nothing else, and a branch's treasurer nothing of the federation. That it is so is
+// the server's business.
 let me = { name: "", role: "" };
+const mayEnter = branch => !/^(reader|keeper:)/.test(me.role) || me.role.slice("keeper:".length).split(",")
+  .includes(branch);
 function showMenu() {
   const links = group => Object.keys(VIEWS).filter(name => VIEWS[name].group === group).map(name =>
     el("li", {}, el("a", { "data-view": name, href: "#" + name }, text(name))));
-  const groups = me.role === "reader" ? ["look"] : ["look", "enter", "finish", "manage"];
+  const all = ["look", "enter", "finish", "manage"], groups = all.slice(0, me.role === "reader" ? 1
+    : me.role.startsWith("keeper:") ? 3 : 4);
   $("views").replaceChildren(...groups.map(group =>
     el("div", {}, el("h2", {}, text("group-" + group)), el("ul", {}, links(group)))));
   $("me").replaceChildren(...(me.name ? [shown(me.name)] : []));

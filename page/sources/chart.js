@@ -12,8 +12,8 @@ async function chart(rows) {
     .sort((one, two) => days.get(two).size - days.get(one).size);
   if (!symbols.length) return null;
   const place = el("div"), caption = el("figcaption"), figure = el("figure.chart", {}, caption, place);
-  const choice = symbols.length > 1 ? el("select", { "aria-label": text("commodity"), change: () => draw() },
-    symbols.map(symbol => el("option", { value: symbol }, symbol))) : null;
+  const choice = symbols.length > 1 ? el("select", { id: "chart-symbol", "aria-label": text("commodity"),
+    change: () => anew(draw) }, symbols.map(symbol => el("option", { value: symbol }, symbol))) : null;
   const draw = () => {
     const symbol = choice?.value ?? symbols[0], points = [...days.get(symbol)];
     const read = el("output"), show = ([day, units]) => {

@@ -53,11 +53,6 @@ function typedAmount(id) {
   if (!read) throw new Mistake(id, "amount-form", { amount: $(id).value, samples: samples.join(", ") });
   return read;
 }
-// What is left of a transfer that is to be received as a whole.
-async function leftOf(request) {
-  if (request.do !== "receive" || request.part) return null;
-  return (await report("/transfers/" + FOREVER).catch(orDenied([]))).find(row => row[5] === request.id)?.[2] ?? null;
-}
 // An amount that was read otherwise than it looks is confirmed by itself, before the button works.
 function confirmed(notes, act) {
   if (!notes.some(line => line.includes(" was read as "))) return null;
@@ -107,13 +102,13 @@ async function checked(request, form, reply) {
   if (reply.kind === "repeated") return panel("good", el("p", {}, text("would-repeat")), described(request));
   const { added, old, entries } = reply;
   if (added === 0) return panel("good", el("p", {}, text("nothing-new", { old })), form.nothing?.());
-  const [left, more] = await Promise.all([leftOf(request), form.preview?.(request, reply)])
-    .catch(() => [null, el("p.small", {}, text("no-preview"))]);
+  const more = await Promise.resolve(form.preview?.(request, reply))
+    .catch(() => el("p.small", {}, text("no-preview")));
   const bound = entries === undefined ? request : { ...request, "if-entries": entries };
   const act = button(form.button ?? "do-" + request.do, once(() => command(bound, form)), ".main");
   return panel("ask",
     el("p", {}, el("strong", {}, added === undefined ? text("checked") : text("would-import", { n: added, old }))),
-    added === undefined ? described(request, left === null ? [] : [[text("amount"), left]]) : null,
+    added === undefined ? described(request) : null,
     more, remarks(reply.notes, Boolean(form.preview)), el("p.small", {}, text("no-undo")), confirmed(reply.notes, act),
     buttons(act));
 }

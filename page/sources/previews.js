@@ -27,6 +27,12 @@ async function twinOf(branch, day, legs) {
   return panel("wait", el("p", {}, el("strong", {}, phrase("twin", { number, what: description }))),
     el("p", {}, toItem(branch, number, text("see-entry"))));
 }
+// Below the check of a transfer: what it does in its branch.
+async function transferPreview(branch, { from, to, day, account, amount }, sign) {
+  const { symbol, units } = readAmount(amount), way = `assets:transit:${from}:${to}`;
+  const legs = [{ account, symbol, units: sign * units }, { account: way, symbol, units: -sign * units }];
+  return [await twinOf(branch, day, legs), await effects(branch, day, legs)];
+}
 // Below the check of an entry: its text, and what it does.
 async function entryPreview({ branch, journal }) {
   const made = entryOf(journal, 0), legs = legsOf(made);

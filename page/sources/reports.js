@@ -17,6 +17,7 @@ const turns = {};
 // Shows what is loaded. Old rows never stand below a new title, and a late reply never replaces a newer one.
 async function fill(place, load) {
   const mine = turns[place] = (turns[place] ?? 0) + 1, box = $(place), isLast = () => mine === turns[place];
+  const focused = box.contains(document.activeElement) ? document.activeElement.id : "";
   box.setAttribute("aria-busy", "true");
   box.replaceChildren(el("p.soft", {}, text("loading")));
   let inside;
@@ -31,6 +32,19 @@ async function fill(place, load) {
   box.replaceChildren(...inside.flat().filter(Boolean));
   box.setAttribute("aria-busy", "false");
   box.dispatchEvent(new Event("filled"));
+  if (focused && document.activeElement === document.body) $(focused)?.focus({ preventScroll: true });
+}
+// Makes a part of the page anew; the focus stays on what has the same ID.
+function anew(make) {
+  const { id } = document.activeElement;
+  make();
+  if (id && document.activeElement === document.body) $(id)?.focus({ preventScroll: true });
+}
+// What follows from leaving a field waits until the focus is where it goes and the mouse is released: a click meets
+// what it was meant for.
+async function released() {
+  await rest();
+  while (document.querySelector(":is(a, button, input, label):active")) await new Promise(go => setTimeout(go, 20));
 }
 // Goes through many things without holding up the page: it rests every few milliseconds.
 const REST = 25;

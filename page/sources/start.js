@@ -9,7 +9,8 @@ $("branch").addEventListener("change", event => {
   location.hash = link(view.name, { ...view, branch: event.target.value, account: "", tag: "", id: "" });
 });
 $("day").addEventListener("change", event => {
-  if (event.target.reportValidity()) location.hash = link(view.name, { ...view, day: event.target.value });
+  if (!event.target.reportValidity()) return;
+  location.hash = link(view.name, { ...view, ...VIEWS[view.name].typed?.(), day: event.target.value });
 });
 $("language-choice").addEventListener("change", event => {
   language = event.target.value;
@@ -18,9 +19,7 @@ $("language-choice").addEventListener("change", event => {
   changeView();
 });
 $("skip").addEventListener("click", () => $("main").focus());
-$("menu").addEventListener("click", event => {
-  event.target.setAttribute("aria-expanded", String($("side").classList.toggle("is-open")));
-});
+$("menu").addEventListener("click", () => openMenu(!$("side").classList.contains("is-open")));
 addEventListener("hashchange", changeView);
 addEventListener("storage", event => {
   if (event.key !== null && !event.key.startsWith(MINE + PENDING)) return;

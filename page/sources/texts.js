@@ -111,6 +111,8 @@ const TEXTS = {
   "left": ["Left", "Offen"],
   "nothing-open": ["Nothing is on the way.", "Nichts ist unterwegs."],
   "nothing-for": ["Nothing is on the way to {branch}.", "Nichts ist unterwegs an {branch}."],
+  "no-list": ["You have no right to see what is on the way. The sender can tell you the reference of a transfer.",
+    "Was unterwegs ist, ist hier nicht lesbar. Die Kennung einer Überweisung nennt, wer sie gesendet hat."],
   "receive-this": ["Receive {id} from {branch}", "{id} von {branch} empfangen"],
 
   "find-entry": ["Find words in the entries", "Wörter in den Buchungen suchen"],
@@ -149,8 +151,7 @@ const TEXTS = {
     "Ein Beleg: von welchem Konto das Geld kommt und auf welches es geht. Was ein Mitglied zahlt, kommt von einem "
     + "Ertragskonto. Mehrere Zeilen teilen einen Betrag auf."],
   "to-account": ["To the account", "Auf das Konto"],
-  "remove-line": ["Remove the line", "Zeile entfernen"],
-  "one-more-line": ["One more line", "Noch eine Zeile"],
+  "further-account": ["And to the account (may be empty)", "Und auf das Konto (kann leer bleiben)"],
   "now-says": ["Bank or cash box now says (may be empty)", "Bank oder Kasse zeigt jetzt (kann leer bleiben)"],
   "now-says-note": ["The balance after this entry. From then on nothing is taken that would make it untrue.",
     "Der Saldo nach dieser Buchung. Von da an wird nichts genommen, was ihn falsch machen würde."],
@@ -193,7 +194,10 @@ const TEXTS = {
   "copy": ["Copy into the form", "Ins Formular kopieren"],
   "entry-before": ["Entry before", "Vorige Buchung"],
   "entry-after": ["Entry after", "Nächste Buchung"],
+  "reverses": ["Reverses", "Storniert"],
   "reverse": ["Reverse this entry", "Diese Buchung stornieren"],
+  "reverse-short": ["Reverse", "Stornieren"],
+  "reverse-number": ["Reverse entry {number}", "Buchung {number} stornieren"],
   "reverse-note": ["Nothing is ever changed or removed. A counter-entry takes all amounts back, on a day of your "
     + "choice, and once.",
     "Nichts wird geändert oder gelöscht. Eine Gegenbuchung nimmt alle Beträge zurück, an einem Tag nach Wahl, und nur "

@@ -86,7 +86,7 @@ const partsOf = line => line.parts ?? [line];
 // What the book has of a line already: its mark; or else an entry with its amount on the account, made by hand or by a
 // transfer, a few days away; or one with another file's mark on the very day.
 const NEAR = 5;
-function matchLines(lines, book, account, symbol) {
+async function matchLines(lines, book, account, symbol) {
   const marks = new Map(book.map(entry => [entry.mark, entry])), taken = new Set();
   const moves = entry => legsOf(entry).filter(leg => leg.account === account && leg.symbol === symbol)
     .reduce((sum, { units }) => sum + units, 0n);
@@ -97,11 +97,12 @@ function matchLines(lines, book, account, symbol) {
   if (!lines.length) return;
   const from = isoDay(dayNumber(lines[0].day) - NEAR), to = isoDay(dayNumber(lines.at(-1).day) + NEAR);
   const near = new Map();
-  for (const entry of book) {
-    if (entry.day < from || entry.day > to || taken.has(entry.number)) continue;
-    const units = moves(entry);
-    if (units) near.set(units, [...near.get(units) ?? [], entry]);
-  }
+  await slowly(book, entry => {
+    if (entry.day < from || entry.day > to || taken.has(entry.number)) return;
+    const units = moves(entry), alike = near.get(units);
+    if (alike) alike.push(entry);
+    else if (units) near.set(units, [entry]);
+  });
   for (const line of lines.filter(({ held }) => !held)) {
     const away = entry => Math.abs(dayNumber(entry.day) - dayNumber(line.day));
     const fits = (near.get(line.units) ?? []).filter(entry => !taken.has(entry.number)
@@ -181,8 +182,8 @@ async function showBank() {
     if (!styles.has(symbol)) return [panel("bad", el("p", {}, text("bank-symbol", { symbol })))];
     const marks = await marksOf(statement.lines, account);
     const ends = await Promise.all(statement.closings.map(one => endMark(account, one)));
-    const open = (await report("/transfers/" + FOREVER).catch(orDenied([])))
-      .filter(row => row[4] === view.branch);
+    const listed = await report("/transfers/" + FOREVER).catch(orDenied(null));
+    const open = (listed ?? []).filter(row => row[4] === view.branch);
     if (!isLast()) return [];
     const lines = onceEach(statement.lines, marks), closings = onceEach(statement.closings, ends);
     const doubled = (statement.doubled ?? 0) + statement.lines.length - lines.length;
@@ -190,7 +191,8 @@ async function showBank() {
     if (account) {
       await slowly(book, entry => { entry.payee ??= payeeKey(entry.description); return legsOf(entry); });
       if (!isLast()) return [];
-      matchLines(lines, book, account, symbol);
+      await matchLines(lines, book, account, symbol);
+      if (!isLast()) return [];
       matchTransfers(lines, open, symbol);
       await proposeCounters(lines, book, account);
       await rest();
@@ -201,7 +203,7 @@ async function showBank() {
       one.isTaken ??= true;
     }
     Object.assign(bank, { book, account, isReady: Boolean(account) });
-    return [...nothing, ...bankReport(statement, account, symbol)];
+    return [...nothing, listed ? null : el("p", {}, text("no-list")), ...bankReport(statement, account, symbol)];
   });
 }
 // The settings of a file with separated values: each can be corrected, and the table below follows.
@@ -213,7 +215,7 @@ function showSetting() {
       options.map(([name, label]) => el("option", { value: name, selected: String(name) === String(value) }, label))));
   const columns = [[-1, "–"], ...setting.names.map((name, at) => [at, `${at + 1} ${name}`.slice(0, 40)])];
   const columnOf = role => choice(role, setting.columns[role], columns, at => { setting.columns[role] = Number(at); });
-  $("bank-columns").replaceChildren(
+  anew(() => $("bank-columns").replaceChildren(
     choice("encoding", bank.encoding, ["utf-8", "windows-1252", "utf-16le"].map(one => [one, one]),
       one => { bank.encoding = one; }),
     choice("commodity", setting.symbol, [...styles.keys()].map(one => [one, one]), one => { setting.symbol = one; }),
@@ -222,7 +224,7 @@ function showSetting() {
     choice("order", setting.order, [["dmy", text("order-dmy")], ["mdy", text("order-mdy")]],
       one => { setting.order = one; }),
     choice("decimal-mark", setting.mark, [[",", ","], [".", "."]], one => { setting.mark = one; }),
-    ...Object.keys(ROLES).map(columnOf));
+    ...Object.keys(ROLES).map(columnOf)));
 }
 const sumOfLines = lines => lines.reduce((sum, { units }) => sum + units, 0n);
 // The balance of the bank's account in the book through a day, and with the lines that are to be entered.
@@ -256,8 +258,8 @@ function accountChoice() {
     $("bank-account").value = kept("bank " + bankKey(), {}).account ?? "";
     showBank();
   };
-  return el("select", { "aria-label": text("account"), change: choose }, bank.statements.map((one, at) =>
-    el("option", { value: at, selected: at === bank.which }, one.account)));
+  return el("select", { id: "bank-which", "aria-label": text("account"), change: choose },
+    bank.statements.map((one, at) => el("option", { value: at, selected: at === bank.which }, one.account)));
 }
 const unreadLines = unread => unread.length ? panel("bad", el("p", {}, text("lines-unread", { n: unread.length })),
   el("ul", {}, unread.slice(0, 5).map(({ at, cells }) => el("li", {}, text("line", { line: at }), ": ",
@@ -266,7 +268,8 @@ const toKnown = ({ number, day }, key) => toItem(view.branch, number, text(key, 
 function bankTable(lines, symbol) {
   const row = (line, at) => {
     const { held, like, day, units } = line, words = wordsOf(line), known = held ?? like;
-    const pick = el("input", { type: "checkbox", checked: !held && line.isTaken, disabled: Boolean(held),
+    const pick = el("input", { id: `bank-pick-${at}`, type: "checkbox", checked: !held && line.isTaken,
+      disabled: Boolean(held),
       "aria-label": text("enter-line", { day, what: words }),
       change: event => { line.isTaken = event.target.checked; hush(); showBank(); } });
     const fields = partsOf(line).map((part, step) => {
@@ -386,4 +389,9 @@ FORMS.bank = { request: bankRequest, preview: bankPreview };
 $("bank-file").addEventListener("change", event => {
   if (event.target.files.length) chooseBank([...event.target.files]);
 });
-$("bank-account").addEventListener("change", () => { if (bank) showBank(); });
+// (a check that was asked for meanwhile has shown the lines itself)
+$("bank-account").addEventListener("change", async () => {
+  const turn = turns["bank-lines"];
+  await released();
+  if (bank && turn === turns["bank-lines"]) showBank();
+});

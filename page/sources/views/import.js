@@ -25,16 +25,15 @@ async function readFile(file, encoding) {
 }
 // The new entries of an import with all their postings, as they are read, and what they do to the balances. What is not
 // understood here is shown as it is typed, and then no balances are told.
-const MOST_SHOWN = 50;
 async function importPreview({ branch, journal }, { notes }) {
   const lines = journal.split("\n"), fresh = notes.filter(line => line.startsWith("new: "));
   const starts = fresh.map(line => /^new: journal:([0-9]+): /.exec(line)?.[1]).filter(Boolean).map(Number);
   if (!starts.length) return null;
   const entries = starts.map(start => entryAt(lines, start)), isWhole = entries.every(Boolean);
-  const texts = entries.slice(0, MOST_SHOWN).map((entry, at) => entry ? spelledOut(entry) : typedAt(lines, starts[at]));
+  const texts = entries.map((entry, at) => entry ? spelledOut(entry) : typedAt(lines, starts[at]));
   const last = isWhole && entries.reduce((most, { day }) => day > most ? day : most, "");
   return [el("h3", {}, text("new-entries")), el("pre", { tabindex: "0" }, shown(texts.join("\n\n"))),
-    starts.length > MOST_SHOWN ? el("p.small", {}, text("further", { n: starts.length - MOST_SHOWN })) : null,
+    fresh.slice(starts.length).map(line => el("p.small", {}, said(line.slice("new: ".length)))),
     isWhole && fresh.length === starts.length ? await effects(branch, last, entries.flatMap(legsOf))
       : el("p.small", {}, text("no-effects"))];
 }

@@ -1,13 +1,14 @@
 // ---------- An entry: with all its postings, to be reversed and copied ----------
 
-function item() {
-  const { branch, id } = view;
+async function item() {
+  const { branch, id, of } = view;
   $("reverse-form").hidden = true;
-  fill("item-report", async () => {
+  await fill("item-report", async () => {
     const book = await bookOf(branch), entry = book[Number(id) - 1];
     if (!entry) return [el("p", {}, text("no-entry"))];
     const back = book.find(one => one.mark === `back-${branch}-${entry.number}`), legs = legsOf(entry);
-    const isMovable = !OWN.test(entry.mark) && legs.some(({ units }) => units);
+    const isMovable = mayEnter(branch) && !OWN.test(entry.mark) && legs.some(({ units }) => units);
+    const turned = Number(new RegExp(`^back-${branch}-([0-9]+)$`).exec(entry.mark)?.[1]);
     $("reverse-form").hidden = !isMovable || Boolean(back);
     if ($("reverse-day").value < entry.day) $("reverse-day").value = today() < entry.day ? entry.day : today();
     const step = (key, number) => book[number - 1] ? toItem(branch, number, text(key)) : "";
@@ -15,6 +16,7 @@ function item() {
       facts([[text("entry-number"), id], [text("day"), entry.day], entry.code && [text("code"), entry.code],
         [text("description"), entry.description], [text("mark"), el("span.name", {}, shown(entry.mark))],
         ...entry.comments.map(one => [text("comment"), one]),
+        turned && [text("reverses"), toItem(branch, turned, [turned, book[turned - 1]?.day].join(", "))],
         back && [text("reversed-by"), toItem(branch, back.number, `${back.number}, ${back.day}`)]]),
       itemTable(entry),
       OWN.test(entry.mark) ? el("p.soft", {}, text("no-reverse")) : null,
@@ -22,6 +24,11 @@ function item() {
         step("entry-after", entry.number + 1), printButton()),
     ];
   });
+  // (whoever comes to reverse it sees at once what that would do)
+  if (of !== "reverse" || view.id !== id || $("reverse-form").hidden) return;
+  view.of = "";
+  history.replaceState(null, "", link("item", view));
+  await attempt(FORMS.reverse);
 }
 function itemTable(entry) {
   const { branch } = view, inferred = inferredOf(entry);

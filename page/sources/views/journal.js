@@ -21,12 +21,20 @@ function journal(isSearch = false) {
       samples: samples.join(", ") }))];
     const isIn = await slowly(wanted.isAll ? [] : book, wanted.isFound);
     const found = wanted.isAll ? book.toReversed() : book.filter((_, at) => isIn[at]).reverse();
-    const steps = inSteps(found, 6, "entries-some", some => some.map(({ number, written }) => el("div.entry", {},
-      toItem(branch, number, `${text("entry-number")} ${number}`), el("pre", {}, shown(written)))));
+    const marks = new Set(book.map(({ mark }) => mark));
+    const steps = inSteps(found, 6, "entries-some", some => some.map(entry => el("div.entry", {},
+      el("p.apart", {}, toItem(branch, entry.number, `${text("entry-number")} ${entry.number}`),
+        toReversal(entry, marks)),
+      el("pre", {}, shown(entry.written)))));
     return [buttons(button("save", () => saveJournal(branch, book), ".main")),
       wanted.isAll ? null : el("p", {}, found.length ? text("found-of", { n: found.length, all: book.length })
         : text("no-entries")), steps];
   });
+}
+function toReversal({ number, mark }, marks) {
+  const { branch } = view, isMovable = mayEnter(branch) && !OWN.test(mark) && !marks.has(`back-${branch}-${number}`);
+  return isMovable ? el("a.no-paper", { href: link("item", { branch, id: number, of: "reverse" }),
+    "aria-label": text("reverse-number", { number }) }, text("reverse-short")) : null;
 }
 // The journal report, byte for byte: each text of a transaction and an empty line.
 function saveJournal(branch, book) {

@@ -54,12 +54,14 @@ async function registerTable(whole) {
   ];
 }
 
+const typedRegister = () => ({ account: valueOf("register-account"), tag: valueOf("register-tag"),
+  from: valueOf("register-from") });
+
 VIEWS.register = { group: "look", show: () => { register(); loadAccounts().catch(() => {}); }, hasBranch: true,
-  hasDay: true };
+  hasDay: true, typed: typedRegister };
 $("register-form").addEventListener("submit", event => {
   event.preventDefault();
-  const wanted = link("register", { ...view, account: valueOf("register-account"), tag: valueOf("register-tag"),
-    from: valueOf("register-from") });
+  const wanted = link("register", { ...view, ...typedRegister() });
   if (location.hash === wanted) register();
   else location.hash = wanted;
 });

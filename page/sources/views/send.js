@@ -9,7 +9,8 @@ function showSend() {
 VIEWS.send = { group: "enter", show: showSend, hasBranch: true };
 FORMS.send = {
   request: () => ({ do: "dispatch", id: valueOf("send-id"), from: view.branch, to: valueOf("send-to"),
-    day: valueOf("send-day"), amount: valueOf("send-amount"), account: valueOf("send-account") }),
+    day: valueOf("send-day"), amount: printed(typedAmount("send-amount")), account: valueOf("send-account").trim() }),
+  preview: request => transferPreview(request.from, request, -1n),
   settled: request => {
     if (request.do === "dispatch" && valueOf("send-id") === request.id) clear("send-amount", "send-id");
   },

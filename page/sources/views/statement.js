@@ -29,6 +29,11 @@ async function addPeriod(period, branch, from, to) {
     }
   }
 }
+function addAll(whole, period) {
+  for (const [key, sums] of Object.entries(period)) {
+    for (const [account, one] of sums) for (const [symbol, units] of one) put(whole[key], account, { symbol, units });
+  }
+}
 function total(sums, kind) {
   const out = new Map();
   for (const [account, one] of sums) {
@@ -111,32 +116,37 @@ function showStatement() {
   fill("statement-report", async (isLast, progress) => {
     if (from > to) return [el("p", {}, text("turned-days"))];
     await loadFederation();
-    const now = emptyPeriod(), before = emptyPeriod(), list = [];
+    const now = emptyPeriod(), before = emptyPeriod(), list = [], unread = [];
     for (const name of names) {
       progress(text("loading-some", { n: list.length, all: names.length }));
-      const own = emptyPeriod();
-      await addPeriod(own, name, from, to);
-      await addPeriod(before, name, yearBefore(from), yearBefore(to));
+      const own = emptyPeriod(), past = emptyPeriod();
+      const isRead = await addPeriod(own, name, from, to)
+        .then(() => addPeriod(past, name, yearBefore(from), yearBefore(to))).then(() => true, orDenied(false));
       if (!isLast()) return [];
-      for (const [key, sums] of Object.entries(own)) {
-        for (const [account, one] of sums) for (const [symbol, units] of one) put(now[key], account, { symbol, units });
+      if (!isRead) {
+        unread.push(name);
+        continue;
       }
+      for (const [whole, one] of [[now, own], [before, past]]) addAll(whole, one);
       list.push({ name, period: own });
     }
     const title = of === "all" ? text("all-branches") : branch, heads = [[from, to], [yearBefore(from), yearBefore(to)]]
       .map(([one, two]) => one.endsWith("01-01") && two.endsWith("12-31") && one.slice(0, 4) === two.slice(0, 4)
         ? one.slice(0, 4) : `${one} – ${two}`);
     return [el("h3", {}, text("statement-title", { what: title, from, to })), onPaper(title),
+      unread.length ? el("p", {}, phrase("not-readable", { names: unread.join(", ") })) : null,
       resultTable(now, before, heads), ...wealthTable(now, from, to), list.length > 1 ? branchTable(list) : null,
       signatures(), kindChoice([...now.moved.keys(), ...before.moved.keys()]), buttons(printButton())];
   });
 }
 const signatures = () => el("div.signatures.only-paper", {}, ["place-and-day", "treasurer", "auditors"].map(key =>
   el("p", {}, text(key))));
+let areKindsOpen = false;
 function kindChoice(accounts) {
   const names = [...new Set(accounts.filter(name => !isTransit(name)).map(firstPart))].sort();
-  return el("details.no-paper", {}, el("summary", {}, text("kinds")), el("div.fields", {}, names.map((name, at) =>
-    el("div.field", {}, el("label", { for: `kind-${at}` }, shown(name)), el("select", { id: `kind-${at}`,
+  return el("details.no-paper", { open: areKindsOpen, toggle: event => { areKindsOpen = event.target.open; } },
+    el("summary", {}, text("kinds")), el("div.fields", {}, names.map((name, at) => el("div.field", {},
+      el("label", { for: `kind-${at}` }, shown(name)), el("select", { id: `kind-${at}`,
       change: event => { keep("kinds", { ...kept("kinds", {}), [name]: event.target.value }); showStatement(); } },
     KINDS.map(kind => el("option", { value: kind, selected: kindOf(name) === kind }, text(KIND_TEXTS[kind]))))))));
 }
