@@ -1,6 +1,6 @@
 """Accepted journals before hledger, where it is on the path: it has to take them, and to find the same balances.
 
-Left out are journals with what docs/FORMATS.md, "Where hledger answers differently", names: assertions that may see
+Left out are journals with what bench/journals/README.md names: assertions that may see
 conversion postings, a total cost on the amount 0, dates in comments; and signs that hledger reads in another way.
 """
 import collections
