@@ -12,7 +12,7 @@ ghost use Rattle.treasury_core.specs.declared.command.Command.TheVariants.{Enter
 ghost use Rattle.treasury_core.specs.Step.{reply, step};
 ghost use Rattle.treasury_core.specs.Run.{IsRun as IsCommandRun, state_after};
 ghost use Rattle.treasury_requests.specs.declared.request.Request.TheVariants.{Import};
-ghost use Rattle.treasury_told.specs.Uneven.{IsReadImport};
+ghost use Rattle.treasury_reasons.specs.Uneven.{IsReadImport};
 ghost use Rattle.treasury_api.specs.declared.report.Report.{Report};
 ghost use Rattle.treasury_api.specs.Transcript.{IsTranscript};
 ghost use Rattle.treasury_api.specs.Step.{Standing, after_asked, Answers};

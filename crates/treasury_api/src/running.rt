@@ -46,7 +46,7 @@ pub struct Line {
 }
 
 /// Why it is refused.
-fn cause_of(refusal: &Refusal) -> Cause
+pub(crate) fn cause_of(refusal: &Refusal) -> Cause
     ensures { result ≡ cause_of refusal.now }
 {
     match refusal {

@@ -17,6 +17,7 @@ mod transfers;
 mod transit;
 
 pub use accounts::{accounts_json, accounts_report};
+pub use asked::is_wanted;
 pub use balance::{balance_json, balance_report};
 pub use branches::{branches_json, branches_report};
 pub use commodities::{commodities_json, commodities_report, samples_law};

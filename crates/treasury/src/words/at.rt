@@ -24,14 +24,13 @@ use std::alloc::Global;
 use std::fs;
 use std::io::{Read, Write};
 use std::net::TcpStream;
-use terminal_text::{push_line, push_shown};
+use terminal_text::push_shown;
 use treasury_api::{NOTHING_ENTERED, write_whole};
 use treasury_client::{Form, Heard, as_text, body_of, call_of, hear_command, hear_report};
 use treasury_files::read_journal;
-use treasury_messages::sentence;
+use treasury_messages::{hint, sentence, text_of};
 use treasury_requests::{Spelled, Terms, request_of};
 use treasury_spelling::{fault_of, form_of_word, port_of, says_no_count, terms_of, value_of};
-use treasury_told::ended::drop_cut_line;
 
 /// Services listen on this machine alone.
 const HOST: &str = "127.0.0.1";
@@ -332,6 +331,13 @@ fn why_safe(request: &Spelled) -> &'static [u8] {
     }
 }
 
+/// The line of a hint, if there is memory for it.
+fn hint_text(alloc: Global, words: &'static [u8]) -> Vec<u8> {
+    let mut said = Vec::new(alloc);
+    let _ = hint(words, &mut said);
+    text_of(alloc, said.as_slice())
+}
+
 /// Said where there is no reply to a request.
 fn unanswered(alloc: Global, room: Vec<u8>, port: u16, request: &Spelled, why: Unheard) -> Said
     requires { IsRoom room }
@@ -343,8 +349,8 @@ fn unanswered(alloc: Global, room: Vec<u8>, port: u16, request: &Spelled, why: U
         Err(_) => refused(alloc, room, cause, HOST, why.reason()),
     };
     let mut reason = said.reason;
-    drop_cut_line(&mut reason);
-    let _ = push_line(why_safe(request), &mut reason);
+    let mut safe = hint_text(alloc, why_safe(request));
+    let _ = reason.append(&mut safe);
     Said {
         answer: said.answer,
         reason,

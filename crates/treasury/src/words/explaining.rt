@@ -1,7 +1,9 @@
 //! What a run says beside its answers, if it is asked to explain them.
 
 ghost use Rattle.std.specs.Prelude.{◌≡◌};
+ghost use Rattle.std.specs.Option.{option_map};
 ghost use Rattle.treasury_messages.specs.Unasked.{IsToldUnasked};
+ghost use Rattle.treasury_api.specs.Beside.{IsSaidBeside};
 
 use book_core::{DayLedger, Refusal};
 use money_core::Cause;
@@ -9,9 +11,8 @@ use std::alloc::Global;
 use treasury_api::{Listener, said_beside};
 use treasury_core::State;
 use treasury_messages::{sentence_text, unasked_text};
+use treasury_notes::notes::{HeldBefore, held_before};
 use treasury_requests::Spelled;
-use treasury_told::ended::ended_part;
-use treasury_told::notes::{HeldBefore, held_before};
 
 /// Explains the answers of a run on standard error: each as a command over a file does, below the number of its line.
 #[derive(Drop)]
@@ -52,7 +53,11 @@ impl Listener for Explainer<'_> {
         state: Option<&State<DayLedger>>,
         request: &Spelled,
         refusal: Option<&Refusal>,
-    ) {
+    )
+        // What is said is told of this request, in this state, and of this refusal.
+        ensures { IsSaidBeside (option_map (λ s. s.now) state.entry) request.now self.old.held
+            (option_map (λ r. r.now) refusal.entry) self.new.said.items }
+    {
         self.said = said_beside(alloc, state, request, self.held, refusal);
     }
 
@@ -67,7 +72,7 @@ impl Listener for Explainer<'_> {
     }
 
     fn end_line(&mut self) {
-        if let Ok(text) = str::from_utf8(ended_part(self.said.as_slice())) {
+        if let Ok(text) = str::from_utf8(self.said.as_slice()) {
             if !text.is_empty() {
                 let line = self.line;
                 let _ = eprintln!(self.rt; "line {line}:");

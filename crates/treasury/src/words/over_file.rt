@@ -30,10 +30,10 @@ use treasury_files::{
     Left, UNCLOSED, Unopened, Unserved, close_treasury, make_tables, open_treasury, read_journal,
 };
 use treasury_messages::sentence;
+use treasury_notes::notes::held_before;
 use treasury_requests::{Bytes, Request, Spelled, Terms, request_of};
 use treasury_spelling::{fault_of, form_of_word, says_no_count, terms_of, value_of};
 use treasury_store::Treasury;
-use treasury_told::notes::held_before;
 
 /// What is said to a word over a file, and what it leaves of the file.
 #[derive(Drop)]

@@ -26,9 +26,9 @@ use journal_lines::read_date;
 use money_core::{Cause, Items, Styles, Text};
 use sqlite::Alter;
 use std::alloc::Global;
+use treasury_notes::notes::held_before;
 use treasury_requests::{Request, Spelled, Terms, read_line};
 use treasury_store::Treasury;
-use treasury_told::notes::held_before;
 
 /// What a call asks for.
 enum Sought {
