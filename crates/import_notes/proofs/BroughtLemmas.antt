@@ -33,6 +33,11 @@ same_filter p q same (l ∷ ls) =
     ap (λ (t : Bool). cond t (l ∷ filter p ls) (filter p ls)) (same l)
     ∙ ap (λ (ms : List Line). cond (q l) (l ∷ ms) ms) (same_filter p q same ls)
 
+pub no_filter : (p : Line → Bool) → ((l : Line) → p l ≡ false) → (ls : List Line) → filter p ls ≡ []
+no_filter p none [] = refl
+no_filter p none (l ∷ ls) =
+    ap (λ (t : Bool). cond t (l ∷ filter p ls) (filter p ls)) (none l) ∙ no_filter p none ls
+
 one_filtered : (p : Line → Bool) (l : Line) (ls : List Line) (t : Bool)
     → filter p (cond (not t) (l ∷ ls) ls) ≡ cond (p l && not t) (l ∷ filter p ls) (filter p ls)
 one_filtered p l ls true = left_out (p l) (l ∷ filter p ls) (filter p ls)

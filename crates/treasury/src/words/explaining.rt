@@ -1,9 +1,7 @@
 //! What a run says beside its answers, if it is asked to explain them.
 
 ghost use Rattle.std.specs.Prelude.{◌≡◌};
-ghost use Rattle.std.specs.Option.{option_map};
 ghost use Rattle.treasury_messages.specs.Unasked.{IsToldUnasked};
-ghost use Rattle.treasury_api.specs.Beside.{IsSaidBeside};
 
 use book_core::{DayLedger, Refusal};
 use money_core::Cause;
@@ -53,11 +51,7 @@ impl Listener for Explainer<'_> {
         state: Option<&State<DayLedger>>,
         request: &Spelled,
         refusal: Option<&Refusal>,
-    )
-        // What is said is told of this request, in this state, and of this refusal.
-        ensures { IsSaidBeside (option_map (λ s. s.now) state.entry) request.now self.old.held
-            (option_map (λ r. r.now) refusal.entry) self.new.said.items }
-    {
+    ) {
         self.said = said_beside(alloc, state, request, self.held, refusal);
     }
 

@@ -1,16 +1,13 @@
 //! Replies in JSON: the object of an answer, if it is none of a report.
 
-ghost use Rattle.std.specs.Prelude.{◌≡◌, ◌⊎◌, ◌≤◌, ◌+◌, ◌-◌, ◌++◌, ℕ, List, [], true, false, length, take};
-ghost use Rattle.std.specs.Prelude.{vec_capacity};
+ghost use Rattle.std.specs.Prelude.{◌≡◌, ◌⊎◌, ◌≤◌, ◌+◌, ◌-◌, ◌++◌, [], true, false, length, take, vec_capacity};
 ghost use Rattle.std.specs.Prelude.{OnOk, OnErr, IsOk, IsTrue, IfSome, None, codes, decimal, option_map};
 ghost use Rattle.std.specs.Str.{is_utf8};
 ghost use Rattle.json_text.specs.JsonText.{object_text};
 ghost use Rattle.json_text.specs.Members.{members_of};
 ghost use Rattle.treasury_requests.specs.Request.{HasDayNumbers, is_report};
 ghost use Rattle.treasury_api.specs.WebServing.{done_json, refusal_json, refused_json, IsJsonDone, IsJsonRefused};
-ghost use Rattle.treasury_api.specs.WebServing.{IsJsonNoted, IsJsonRefusal, IsJsonTold, IsJsonToldOf, IsToldOfBody};
-ghost use Rattle.treasury_api.specs.WebServing.{entries_told};
-ghost use Rattle.treasury_api.specs.Beside.{IsSaidBeside};
+ghost use Rattle.treasury_api.specs.WebServing.{IsJsonRefusal, IsJsonTold, IsToldOfBody, entries_told};
 
 use crate::asking::entries_asked;
 use crate::running::Line;
@@ -186,8 +183,7 @@ fn done_object(line: &[u8], noted: &[u8], entries: Option<usize>, room: Vec<u8>)
     requires line { length line.now ≤ MOST_LINE }
     requires empty { room.items ≡ [] }
     requires room { MOST_JSON ≤ vec_capacity room }
-    ensures done { IsJsonDone line.now entries result.items }
-    ensures noted { IsJsonNoted line.now noted.now entries result.items }
+    ensures { IsJsonDone line.now entries result.items }
 {
     let mut body = room;
     match push_done(line, utf8_of(noted), entries, &mut body) {
@@ -226,11 +222,6 @@ pub fn done_in_json<S: Alter>(
     ensures report { IsTrue (is_report request.now.request) → result.items ≡ text.items }
     ensures other { is_report request.now.request ≡ false → length text.items ≤ 64
         → IsJsonDone (take (length text.items - 1) text.items) (entries_told treasury.now.held request.now)
-        result.items }
-    // Its notes are those of the request, which says of what journal it is by the key.
-    ensures noted { is_report request.now.request ≡ false → length text.items ≤ 64 → (noted : List ℕ)
-        × IsSaidBeside treasury.now.held request.now held None noted
-        × IsJsonNoted (take (length text.items - 1) text.items) noted (entries_told treasury.now.held request.now)
         result.items }
 {
     if request.request.is_report() {
@@ -290,8 +281,7 @@ pub fn refuse_plain_in_json(line: &[u8], cause: Cause, told: &[u8], room: Vec<u8
 pub fn refuse_in_json(line: &Line, told: &[u8], entries: Option<usize>, room: Vec<u8>) -> Line
     requires empty { room.items ≡ [] }
     requires room { MOST_JSON ≤ vec_capacity room }
-    ensures refused { IsJsonRefusal line.now.text.items line.now.cause entries result.cause result.text.items }
-    ensures told { IsJsonToldOf line.now.text.items line.now.cause told.now entries result.cause result.text.items }
+    ensures { IsJsonRefusal line.now.text.items line.now.cause entries result.cause result.text.items }
 {
     let mut text = room;
     match push_refused_at_least(
