@@ -1,15 +1,14 @@
 -- what is listed can be printed, and moves no more than the book
-use Rattle.std.proofs.Common.{◌≡◌, ℕ, zero, suc, ◌+◌, ◌≤◌, ◌<◌, Bool, true, false, nat_eq, List, [], ◌∷◌, ◌++◌, map}
+use Rattle.std.proofs.Common.{◌≡◌, ℕ, suc, ◌+◌, ◌≤◌, ◌<◌, Bool, true, false, nat_eq, List, [], ◌∷◌, ◌++◌}
 use Rattle.std.proofs.Common.{length, take, drop, get_or, ℤ, pos, ◌+ℤ◌, arith, refl, ap, ◌∙◌, sym, subst, Option}
 use Rattle.std.proofs.Common.{append_assoc, add-one, drop-cons, FitsSigned, w64, ◌≢◌, set, get_or-set_same}
 use Rattle.std.proofs.Common.{get_or-set_other}
-use Rattle.std.specs.Prelude.{unsigned_abs, if◌then◌else◌, int_le, Ok}
+use Rattle.std.specs.Prelude.{unsigned_abs, if◌then◌else◌, int_le}
 use Rattle.std.specs.List.{AllByRecursion}
 use Rattle.std.proofs.lemmas.Int.{ints}
 use Rattle.std.proofs.lemmas.Bool.Decides.{nat_tests}
 use Rattle.money_core.specs.declared.style.Style.{Style}
 use Rattle.money_core.specs.declared.unit.Unit.{Unit as Commodity}
-use Rattle.money_core.specs.declared.day.Day.{Day}
 use Rattle.money_core.specs.AmountText.{IsDeclared}
 use Rattle.book_core.specs.declared.leg.Leg.{Leg}
 use Rattle.book_core.specs.declared.entry.Entry.{Entry}
@@ -35,9 +34,9 @@ use Rattle.treasury_state.specs.Good.{IsGoodRecord, IsGoodState}
 use Rattle.treasury_state.proofs.BranchLemmas.{of_branch}
 use Rattle.treasury_reports.specs.declared.listed.Listed.{Listed}
 use Rattle.treasury_reports.specs.RegisterReport.{listed_leg, listed_legs, listed_in, listed_from, put_by_day, by_day}
-use Rattle.treasury_reports.specs.RegisterReport.{legs_in, is_wanted}
-use Rattle.treasury_reports.specs.declared.layout.Layout.{Layout}
-use Rattle.treasury_reports.specs.Layout.{register_piece, register_pieces}
+use Rattle.treasury_reports.specs.RegisterReport.{legs_in, is_wanted, register_cells, rows_behind}
+use Rattle.treasury_reports.specs.declared.rows.Layout.{Layout}
+use Rattle.treasury_reports.specs.Written.{row_in, rows_in}
 use Rattle.treasury_reports.specs.Lent.{IsListable, HaveRoom, sum_at, AreSumsOfListed}
 use Rattle.treasury_reports.proofs.SortLemmas.{all_by_day}
 
@@ -216,25 +215,26 @@ pub take_with_next : (all : List Listed) (i : ℕ) (x : Listed) → i < length a
     → take (i + 1) all ≡ take i all ++ x ∷ []
 take_with_next all i x below e = take_more all i x below ∙ ap (λ (y : Listed). take i all ++ y ∷ []) (sym e)
 
--- the lines after one more
-pub lines_next : (layout : Layout) (styles : List Style) (all : List Listed) (i : ℕ) (x : Listed) (sum : ℤ)
-    (text next : List ℕ)
+-- the rows after one more
+pub rows_next : (layout : Layout) (styles : List Style) (all : List Listed) (i : ℕ) (x : Listed) (sum : ℤ)
+    (rows next : List ℕ)
     → i < length all → x ≡ get_or all i x → sum ≡ value x.leg.unit (legs_in (take i all ++ x ∷ []))
-    → next ≡ text ++ register_piece layout styles x sum
-    → text ++ register_pieces layout styles (take i all) (drop i all) ≡ register_pieces layout styles [] all
-    → next ++ register_pieces layout styles (take (i + 1) all) (drop (i + 1) all) ≡ register_pieces layout styles [] all
-lines_next layout styles all i x sum text next below e s n h =
+    → next ≡ rows ++ row_in layout (register_cells styles x sum)
+    → rows ++ rows_in layout (rows_behind styles (take i all) (drop i all)) ≡ rows_in layout (rows_behind styles [] all)
+    → next ++ rows_in layout (rows_behind styles (take (i + 1) all) (drop (i + 1) all))
+    ≡ rows_in layout (rows_behind styles [] all)
+rows_next layout styles all i x sum rows next below e s n h =
     let behind : drop i all ≡ x ∷ drop (i + 1) all =
     rw add-one (drop-cons all i x below ∙ ap (λ (y : Listed). y ∷ drop (suc i) all) (sym e)) in
     let before : take (i + 1) all ≡ take i all ++ x ∷ [] = take_with_next all i x below e in
-    ap (λ (t : List ℕ). t ++ register_pieces layout styles (take (i + 1) all) (drop (i + 1) all))
-    (n ∙ ap (λ (z : ℤ). text ++ register_piece layout styles x z) s)
+    let row = λ (z : ℤ). row_in layout (register_cells styles x z) in
+    let rest = λ (l m : List Listed). rows_in layout (rows_behind styles l m) in
+    ap (λ (t : List ℕ). t ++ rest (take (i + 1) all) (drop (i + 1) all)) (n ∙ ap (λ (z : ℤ). rows ++ row z) s)
     ∙ ap (λ (l : List Listed).
-    (text ++ register_piece layout styles x (value x.leg.unit (legs_in (take i all ++ x ∷ []))))
-    ++ register_pieces layout styles l (drop (i + 1) all)) before
-    ∙ append_assoc text (register_piece layout styles x (value x.leg.unit (legs_in (take i all ++ x ∷ []))))
-    (register_pieces layout styles (take i all ++ x ∷ []) (drop (i + 1) all))
-    ∙ ap (λ (l : List Listed). text ++ register_pieces layout styles (take i all) l) (sym behind) ∙ h
+    (rows ++ row (value x.leg.unit (legs_in (take i all ++ x ∷ [])))) ++ rest l (drop (i + 1) all)) before
+    ∙ append_assoc rows (row (value x.leg.unit (legs_in (take i all ++ x ∷ []))))
+    (rest (take i all ++ x ∷ []) (drop (i + 1) all))
+    ∙ ap (λ (l : List Listed). rows ++ rest (take i all) l) (sym behind) ∙ h
 
 -- one more leg of a record, and one more record
 pub legs_more : (account : List ℕ) (n : ℕ) (r : Record) (x : Leg) (xs : List Leg) (old before after : List Listed)

@@ -1,5 +1,5 @@
 -- the canonical sample of a style is a sample of it
-use Rattle.std.proofs.Common.{◌≡◌, ◌⊎◌, ◌++◌, ◌==◌, ◌≤◌, ℕ, zero, suc, List, [], ◌∷◌, Bool, true, false, cond, length}
+use Rattle.std.proofs.Common.{◌≡◌, ◌⊎◌, ◌++◌, ◌==◌, ◌≤◌, ℕ, zero, suc, List, [], ◌∷◌, Bool, true, false, length}
 use Rattle.std.proofs.Common.{replicate, arith, refl, ap, ◌∙◌, sym, subst, inl, inr, lit<, Option, Some, None}
 use Rattle.std.specs.Prelude.{◌↔◌, is_some, slice_get, decimal, option_map}
 use Rattle.std.proofs.lemmas.Bool.{cases_Bool, and_parts, or_right, eq-eqb, leb-true, cond-true, cond-false}
@@ -14,8 +14,8 @@ use Rattle.money_core.specs.declared.style.Style.{Style}
 use Rattle.money_core.specs.Mark.{decimal_byte, group_byte}
 use Rattle.money_core.specs.Number.{fraction_part}
 use Rattle.money_core.specs.NumberText.{WritesQuantity}
-use Rattle.money_core.specs.Symbol.{is_symbol, is_bare, is_quoted_byte, in_quotes, is_short_symbol, no_double}
-use Rattle.money_core.specs.Symbol.{has_no_outer_space, WritesSymbol}
+use Rattle.money_core.specs.Symbol.{is_symbol, is_bare, is_quoted_byte, in_quotes}
+use Rattle.money_core.specs.Symbol.{WritesSymbol}
 use Rattle.money_core.specs.Printed.{printed_whole, grouped, places}
 use Rattle.money_core.specs.Amount.{Parts, IsLeftAmount, IsRightAmount, limit}
 use Rattle.money_core.specs.AmountText.{gap, printed_symbol}

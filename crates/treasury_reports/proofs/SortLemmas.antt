@@ -1,5 +1,5 @@
 -- a stable sort by day gives the list in order of day
-use Rattle.std.proofs.Common.{◌≡◌, ℕ, zero, suc, ◌<◌, ◌≤◌, Bool, true, false, cond, List, [], ◌∷◌, length, get_or}
+use Rattle.std.proofs.Common.{◌≡◌, ℕ, suc, ◌<◌, ◌≤◌, Bool, true, false, cond, List, [], ◌∷◌, length, get_or}
 use Rattle.std.proofs.Common.{arith, refl, ap, ◌∙◌, sym, subst, ℤ, ◌≤ℤ◌}
 use Rattle.std.specs.Prelude.{filter, int_lt, int_le, not, ◌&&◌, if◌then◌else◌, ⊤}
 use Rattle.std.specs.List.{AllByRecursion}

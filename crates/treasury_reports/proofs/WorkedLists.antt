@@ -1,5 +1,5 @@
 -- Values worked out by hand, so that a wrong definition does not check.
-use Rattle.std.specs.Prelude.{◌≡◌, ℕ, ℤ, pos, negsuc, List, [], ◌∷◌, codes, Bool, true, false, Option, Some, None, refl}
+use Rattle.std.specs.Prelude.{◌≡◌, ℕ, pos, negsuc, List, [], ◌∷◌, codes, Bool, true, false, Option, Some, None, refl}
 use Rattle.money_core.specs.declared.style.Style.{Style}
 use Rattle.money_core.specs.declared.mark.Mark.{Mark}
 use Rattle.money_core.specs.declared.mark.Mark.TheVariants.{Point, Comma}
@@ -10,26 +10,25 @@ use Rattle.treasury_state.specs.declared.transfer.Part.{Part}
 use Rattle.treasury_state.specs.declared.transfer.Receipt.{Receipt}
 use Rattle.treasury_state.specs.declared.transfer.Transfer.{Transfer}
 use Rattle.treasury_state.specs.Transfer.{open_of}
-use Rattle.treasury_reports.specs.BranchesReport.{lock_column}
+use Rattle.treasury_reports.specs.BranchesReport.{lock_cell}
 use Rattle.treasury_reports.specs.CommoditiesReport.{sample_number, sample_text}
-use Rattle.treasury_reports.specs.AccountsReport.{account_line}
 use Rattle.treasury_reports.specs.TransfersReport.{pending}
 
 -- ---- locks
-pub unlocked : lock_column None ≡ codes "          "
+pub unlocked : lock_cell None ≡ []
 unlocked = refl
 
 -- 9999-12-31 is the last day, 0001-01-01 the first
 pub last_day : is_in_calendar (record { 0 = pos 2932896 }) ≡ true
 last_day = refl
 
-pub past_days : lock_column (Some (record { 0 = pos 2932897 })) ≡ codes "?         "
+pub past_days : lock_cell (Some (record { 0 = pos 2932897 })) ≡ codes "?"
 past_days = refl
 
 pub first_day : is_in_calendar (record { 0 = negsuc 719161 }) ≡ true
 first_day = refl
 
-pub before_days : lock_column (Some (record { 0 = negsuc 719162 })) ≡ codes "?         "
+pub before_days : lock_cell (Some (record { 0 = negsuc 719162 })) ≡ codes "?"
 before_days = refl
 
 -- ---- samples

@@ -1,5 +1,5 @@
 -- Values worked out by hand, so that a wrong definition does not check.
-use Rattle.std.specs.Prelude.{◌≡◌, ℕ, ℤ, pos, negsuc, List, [], ◌∷◌, ◌++◌, codes, Bool, true, false, Some, None, refl}
+use Rattle.std.specs.Prelude.{◌≡◌, ℕ, ℤ, pos, negsuc, List, [], ◌∷◌, ◌++◌, codes, true, false, Some, None, refl}
 use Rattle.money_core.specs.declared.style.Style.{Style}
 use Rattle.money_core.specs.declared.unit.Unit.{Unit as Commodity}
 use Rattle.money_core.specs.declared.day.Day.{Day}
@@ -11,12 +11,11 @@ use Rattle.treasury_state.specs.declared.record.Record.{Record}
 use Rattle.treasury_state.specs.declared.transfer.Transfer.{Transfer}
 use Rattle.treasury_state.specs.Federation.{Branch, Federation}
 use Rattle.treasury_reports.specs.declared.listed.Listed.{Listed}
-use Rattle.std.proofs.Common.{append-nil, ◌∙◌}
 use Rattle.journal_lines.specs.Tag.{first_tag, starts_tag, tag_at}
-use Rattle.treasury_reports.specs.Columns.{right_aligned}
-use Rattle.treasury_reports.specs.RegisterReport.{is_asked, txn_has, is_wanted, listed_from, by_day, register_line}
-use Rattle.treasury_reports.specs.RegisterReport.{register_lines}
-use Rattle.treasury_reports.specs.TransitReport.{open_line, transit_text}
+use Rattle.treasury_reports.specs.Columns.{right_aligned, left_aligned}
+use Rattle.treasury_reports.specs.RegisterReport.{is_asked, txn_has, listed_from, by_day}
+use Rattle.treasury_reports.specs.RegisterReport.{register_cells, rows_behind}
+use Rattle.treasury_reports.specs.TransitReport.{open_cells, transit_rows}
 use Rattle.treasury_reports.specs.JournalReport.{branch_journal}
 
 -- ---- columns
@@ -27,6 +26,9 @@ aligned = refl
 -- what is longer stands as it is
 pub too_long : right_aligned 2 (codes "abc") ≡ codes "abc"
 too_long = refl
+
+pub aligned_left : left_aligned 3 (codes "?") ≡ codes "?  "
+aligned_left = refl
 
 -- ---- accounts
 -- each once, in byte order
@@ -79,10 +81,10 @@ in_order = refl
 
 -- each commodity has its own sum
 pub sums_so_far : (styles : List Style)
-    → register_lines styles [] (one (pos 1) 1 0 (pos 5) ∷ one (pos 1) 1 1 (pos 7) ∷ one (pos 2) 2 0 (negsuc 1) ∷ [])
-    ≡ register_line styles (one (pos 1) 1 0 (pos 5)) (pos 5)
-    ++ (register_line styles (one (pos 1) 1 1 (pos 7)) (pos 7)
-    ++ (register_line styles (one (pos 2) 2 0 (negsuc 1)) (pos 3) ++ []))
+    → rows_behind styles [] (one (pos 1) 1 0 (pos 5) ∷ one (pos 1) 1 1 (pos 7) ∷ one (pos 2) 2 0 (negsuc 1) ∷ [])
+    ≡ register_cells styles (one (pos 1) 1 0 (pos 5)) (pos 5)
+    ∷ register_cells styles (one (pos 1) 1 1 (pos 7)) (pos 7)
+    ∷ register_cells styles (one (pos 2) 2 0 (negsuc 1)) (pos 3) ∷ []
 sums_so_far styles = refl
 
 abbrev pub txn : ℤ → List (List ℕ) → Txn
@@ -149,18 +151,16 @@ federation style = record {
   transfers = sent ∷ [];
 }
 
--- nothing before its day; then its line, also where nothing is open
-pub before_dispatch : (style : Style) → transit_text (federation style) (day (pos 2)) ≡ []
-unfolding transit_text
+-- nothing before its day; then its row, also where nothing is open
+pub before_dispatch : (style : Style) → transit_rows (federation style) (day (pos 2)) ≡ []
+unfolding transit_rows
 before_dispatch style = refl
 
 pub after_receipt : (style : Style)
-    → transit_text (federation style) (day (pos 4))
-    ≡ open_line (federation style) (day (pos 4)) (codes "north") (codes "south") (unit 0)
-unfolding transit_text
-after_receipt style =
-    let line : List ℕ = open_line (federation style) (day (pos 4)) (codes "north") (codes "south") (unit 0) in
-    append-nil ((line ++ []) ++ []) ∙ (append-nil (line ++ []) ∙ append-nil line)
+    → transit_rows (federation style) (day (pos 4))
+    ≡ open_cells (federation style) (day (pos 4)) (codes "north") (codes "south") (unit 0) ∷ []
+unfolding transit_rows
+after_receipt style = refl
 
 -- a journal has each transaction and an empty line
 pub journal_of_north : (style : Style)

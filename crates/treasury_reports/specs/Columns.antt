@@ -1,9 +1,6 @@
--- Columns of a report: texts right-aligned by characters (own rule; docs/FORMATS.md, "Balance report", "Register
--- report", "Transit report", "Branches report", "Transfers report").
-use Rattle.std.specs.Prelude.{ℕ, ◌-◌, ℤ, Bool, ◌&&◌, not, nat_le, nat_lt, List, ◌++◌, count_by, replicate}
-use Rattle.money_core.specs.declared.style.Style.{Style}
-use Rattle.money_core.specs.declared.unit.Unit.{Unit as Commodity}
-use Rattle.money_core.specs.AmountText.{printed_in}
+-- Columns of a report: texts aligned by characters (own rule; docs/FORMATS.md, "Balance report", "Register report",
+-- "Transit report", "Branches report", "Transfers report").
+use Rattle.std.specs.Prelude.{ℕ, ◌-◌, Bool, ◌&&◌, not, nat_le, nat_lt, List, ◌++◌, count_by, replicate}
 
 -- a byte that goes on with a character, in UTF-8: one of 128 to 191
 abbrev pub is_continuation : ℕ → Bool
@@ -17,6 +14,10 @@ char_count text = count_by (λ b. not (is_continuation b)) text
 abbrev pub right_aligned : ℕ → List ℕ → List ℕ
 right_aligned width text = replicate (width - char_count text) 32 ++ text
 
+-- the text left-aligned in so many characters
+abbrev pub left_aligned : ℕ → List ℕ → List ℕ
+left_aligned width text = text ++ replicate (width - char_count text) 32
+
 -- how wide the number of an entry, or of entries, stands in a report
 abbrev pub number_width : ℕ
 number_width = 6
@@ -25,6 +26,6 @@ number_width = 6
 abbrev pub amount_width : ℕ
 amount_width = 20
 
--- a quantity of a commodity, in smallest units, as an amount in its column
-abbrev pub amount_column : List Style → Commodity → ℤ → List ℕ
-amount_column styles unit quantity = right_aligned amount_width (printed_in styles unit quantity)
+-- how wide the day of a lock stands in a report
+abbrev pub lock_width : ℕ
+lock_width = 10

@@ -1,6 +1,5 @@
 -- Mirrors code: lists of loans, and sums in a table.
 use Rattle.std.specs.Prelude.{◌≡◌, ◌<◌, ◌≤◌, ℤ, List, map, length, slice_index_or, pos}
-use Rattle.money_core.specs.declared.day.Day.{Day}
 use denote.Ref.{Bor}
 use Rattle.money_core.specs.declared.style.Style.{Style}
 use Rattle.money_core.specs.declared.unit.Unit.{Unit as Commodity}

@@ -1,5 +1,6 @@
 -- What a reader has to believe, in reading order
 pub mod Columns
+pub mod Rows
 pub mod BalanceReport
 pub mod RegisterReport
 pub mod TransitReport
@@ -10,4 +11,4 @@ pub mod AccountsReport
 pub mod TransfersReport
 -- What mirrors code, for private clauses: nobody has to believe it
 pub mod Lent
-pub mod Layout
+pub mod Written

@@ -1,6 +1,6 @@
 -- The register of an account (own rule; docs/FORMATS.md, "Register report"; hledger manual, "register", "Tags").
 use Rattle.std.specs.Prelude.{ℕ, ◌+◌, ◌==◌, nat_lt, Bool, true, ◌&&◌, ◌||◌, not, if◌then◌else◌, ℤ, int_le, List, []}
-use Rattle.std.specs.Prelude.{◌∷◌, ◌++◌, map, length, take, drop, codes, decimal, Option, Some, None}
+use Rattle.std.specs.Prelude.{◌∷◌, ◌++◌, map, length, take, drop, decimal, Option, Some, None}
 use Rattle.std.specs.List.{list_any, position_or_len}
 use Rattle.std.specs.Str.{bytes_eq}
 use Rattle.money_core.specs.declared.style.Style.{Style}
@@ -15,7 +15,9 @@ use Rattle.journal_format.specs.declared.txn.Txn.{Txn}
 use Rattle.treasury_state.specs.declared.record.Record.{Record}
 use Rattle.treasury_state.specs.Federation.{Federation, records_of}
 use Rattle.treasury_reports.specs.declared.listed.Listed.{Listed}
-use Rattle.treasury_reports.specs.Columns.{right_aligned, number_width, amount_column}
+use Rattle.treasury_reports.specs.declared.rows.Layout.TheVariants.{Text}
+use Rattle.treasury_reports.specs.declared.rows.Column.TheVariants.{Plain, Number, Amount, End, Note}
+use Rattle.treasury_reports.specs.Rows.{Row, report_as}
 
 -- where the first `=` of what is asked for stands; its length where there is none
 abbrev pub cut : List ℕ → ℕ
@@ -77,42 +79,22 @@ by_day (x ∷ xs) = put_by_day x (by_day xs)
 abbrev pub legs_in : List Listed → List Leg
 legs_in xs = map (λ (x : Listed). x.leg) xs
 
--- a description after two spaces; nothing where it is empty
-abbrev pub description_column : List ℕ → List ℕ
-description_column [] = []
-description_column (b ∷ bs) = codes "  " ++ (b ∷ bs)
-
 -- day, entry number, amount, sum so far, account and description of a listed leg
-unfoldable pub register_line : List Style → Listed → ℤ → List ℕ
-register_line styles x sum =
-    printed_date x.day ++ codes "  " ++ right_aligned number_width (decimal x.number) ++ codes "  "
-    ++ amount_column styles x.leg.unit x.leg.qty ++ codes "  "
-    ++ amount_column styles x.leg.unit sum ++ codes "  " ++ x.leg.account ++ description_column x.description
-    ++ codes "\n"
-
--- the lines of what is listed after other lines, each with the sum of all that is listed so far in its commodity
-abbrev pub register_lines : List Style → List Listed → List Listed → List ℕ
-register_lines styles before [] = []
-register_lines styles before (x ∷ xs) =
-    register_line styles x (value x.leg.unit (legs_in (before ++ x ∷ [])))
-    ++ register_lines styles (before ++ x ∷ []) xs
-
--- the register of an account and its subaccounts in a branch, in order of place
-unfoldable pub register_text : Federation → List ℕ → List ℕ → Option (List ℕ) → List ℕ
-register_text f name account tag = register_lines f.styles [] (by_day (listed_from account tag 1 (records_of f name)))
-
--- in JSON, the cells of a listed leg: day, entry number, amount, sum so far, account and description
-unfoldable pub register_cells : List Style → Listed → ℤ → List (List ℕ)
+unfoldable pub register_cells : List Style → Listed → ℤ → Row
 register_cells styles x sum =
-    printed_date x.day ∷ (decimal x.number ∷ (printed_in styles x.leg.unit x.leg.qty
-    ∷ (printed_in styles x.leg.unit sum ∷ (x.leg.account ∷ (x.description ∷ [])))))
+    (Plain, printed_date x.day) ∷ ((Number, decimal x.number) ∷ ((Amount, printed_in styles x.leg.unit x.leg.qty)
+    ∷ ((Amount, printed_in styles x.leg.unit sum) ∷ ((End, x.leg.account) ∷ ((Note, x.description) ∷ [])))))
 
--- a row for each line of the report, with the same sums
-abbrev pub rows_behind : List Style → List Listed → List Listed → List (List (List ℕ))
+-- the rows of what is listed after others, each with the sum of all that is listed so far in its commodity
+abbrev pub rows_behind : List Style → List Listed → List Listed → List Row
 rows_behind styles before [] = []
 rows_behind styles before (x ∷ xs) =
     register_cells styles x (value x.leg.unit (legs_in (before ++ x ∷ []))) ∷ rows_behind styles (before ++ x ∷ []) xs
 
--- the register in JSON
-unfoldable pub register_rows : Federation → List ℕ → List ℕ → Option (List ℕ) → List (List (List ℕ))
+-- the register of an account and its subaccounts in a branch, in order of place
+unfoldable pub register_rows : Federation → List ℕ → List ℕ → Option (List ℕ) → List Row
 register_rows f name account tag = rows_behind f.styles [] (by_day (listed_from account tag 1 (records_of f name)))
+
+-- its lines
+abbrev pub register_text : Federation → List ℕ → List ℕ → Option (List ℕ) → List ℕ
+register_text f name account tag = report_as Text (register_rows f name account tag)

@@ -1,6 +1,5 @@
 -- The transfers of which something is open (own rule; docs/FORMATS.md, "Transfers report").
-use Rattle.std.specs.Prelude.{◌≡◌, ℕ, Bool, not, List, ◌++◌, codes, filter, pos, [], ◌∷◌, map}
-use Rattle.std.specs.List.{flat_map}
+use Rattle.std.specs.Prelude.{◌≡◌, ℕ, Bool, not, List, filter, pos, [], ◌∷◌, map}
 use Rattle.std.specs.Ordering.{int_eq}
 use Rattle.money_core.specs.declared.style.Style.{Style}
 use Rattle.money_core.specs.declared.unit.Unit.{Unit as Commodity}
@@ -10,7 +9,8 @@ use Rattle.journal_lines.specs.Date.{printed_date}
 use Rattle.treasury_state.specs.declared.transfer.Transfer.{Transfer}
 use Rattle.treasury_state.specs.Federation.{Federation}
 use Rattle.treasury_state.specs.Transfer.{open_of, open_amount}
-use Rattle.treasury_reports.specs.Columns.{amount_column}
+use Rattle.treasury_reports.specs.declared.rows.Column.TheVariants.{Plain, Amount, From, End}
+use Rattle.treasury_reports.specs.Rows.{Row}
 
 -- something of the transfer is open through the day
 abbrev pub is_pending : Day → Transfer → Bool
@@ -20,28 +20,15 @@ is_pending day t = not (int_eq (open_of t day) (pos 0))
 abbrev pub pending : Day → List Transfer → List Transfer
 pending day ts = filter (is_pending day) ts
 
--- which way a transfer goes
-abbrev pub way_text : Transfer → List ℕ
-way_text t = t.source ++ codes " to " ++ t.target
-
--- day, amount, open amount, way and ID of a transfer
-unfoldable pub transfer_line : List Style → Day → Transfer → List ℕ
-transfer_line styles day t =
-    printed_date t.day ++ codes "  " ++ amount_column styles t.unit t.qty ++ codes "  "
-    ++ amount_column styles t.unit (open_of t day) ++ codes "  " ++ way_text t ++ codes "  " ++ t.id ++ codes "\n"
+-- day, amount, open amount, from, to and ID of a transfer
+unfoldable pub transfer_cells : List Style → Day → Transfer → Row
+transfer_cells styles day t =
+    (Plain, printed_date t.day) ∷ ((Amount, printed_in styles t.unit t.qty)
+    ∷ ((Amount, printed_in styles t.unit (open_of t day))
+    ∷ ((From, t.source) ∷ ((Plain, t.target) ∷ ((End, t.id) ∷ [])))))
 
 -- the report
-unfoldable pub transfers_text : Federation → Day → List ℕ
-transfers_text f day = flat_map (transfer_line f.styles day) (pending day f.transfers)
-
--- in JSON, the cells of a transfer: day, amount, open amount, from, to and ID
-unfoldable pub transfer_cells : List Style → Day → Transfer → List (List ℕ)
-transfer_cells styles day t =
-    printed_date t.day ∷ (printed_in styles t.unit t.qty ∷ (printed_in styles t.unit (open_of t day)
-    ∷ (t.source ∷ (t.target ∷ (t.id ∷ [])))))
-
--- the report in JSON: a row for each listed transfer
-unfoldable pub transfers_rows : Federation → Day → List (List (List ℕ))
+unfoldable pub transfers_rows : Federation → Day → List Row
 transfers_rows f day = map (transfer_cells f.styles day) (pending day f.transfers)
 
 -- what is open of those that are listed is, from each branch to each and in each commodity, what the transit report has

@@ -1,85 +1,49 @@
 //! The balance report of a branch.
 
-ghost use Rattle.std.specs.Prelude.{◌≡◌, ◌↔◌, ◌⊎◌, ◌<◌, ◌++◌, take, length, false, OnOk, OnErr, IfOk, IfErr, Err};
+ghost use Rattle.std.specs.Prelude.{◌≡◌, ◌↔◌, ◌⊎◌, ◌<◌, ◌++◌, length, false, OnOk, OnErr, IfOk, IfErr, Err};
 ghost use Rattle.std.specs.Result.{IsOkUnless};
-ghost use Rattle.json_text.specs.JsonText.{rows_text};
 ghost use Rattle.money_core.specs.AmountText.{IsDeclared};
 ghost use Rattle.book_core.specs.GoodBook.{HasRoom};
 ghost use Rattle.treasury_state.specs.Federation.{has_branch};
-ghost use Rattle.treasury_reports.specs.BalanceReport.{amount_line, balance_text, balance_rows};
-ghost use Rattle.treasury_reports.specs.Layout.{amount_piece, balance_piece, account_pieces, book_pieces};
+ghost use Rattle.treasury_reports.specs.Rows.{report_as};
+ghost use Rattle.treasury_reports.specs.BalanceReport.{amount_row, balance_row, account_rows, book_rows};
+ghost use Rattle.treasury_reports.specs.BalanceReport.{balance_rows, balance_text};
+ghost use Rattle.treasury_reports.specs.Written.{rows_in};
 
-use crate::columns::{amount_cell, push_amount};
-use crate::layout::{Layout, push_cells, push_rows};
+use crate::columns::amount_cell;
+use crate::rows::{Column, Layout, push_row, push_written};
 use book_core::Ledger;
 use money_core::{Cause, Day, Styles, Unit};
 use std::alloc::Global;
 use treasury_state::State;
 
-/// The line of a balance; nothing where it is zero.
-fn amount_line(
-    alloc: Global,
-    styles: &Styles,
-    account: &str,
-    unit: Unit,
-    qty: i64,
-) -> Result<Vec<u8>, Cause>
-    requires { IsDeclared styles.now unit qty }
-    ensures ok { IfOk result (λ line. line.items ≡ amount_line styles.now account.now unit qty) }
-    ensures memory { IsOkUnless result Cause.OutOfMemory }
-{
-    let mut line = Vec::new(alloc);
-    if qty == 0 {
-        return Ok(line);
-    }
-    push_amount(alloc, styles, unit, qty, &mut line)?;
-    line.extend_from_slice(b"  ")?;
-    line.extend_from_slice(account.as_bytes())?;
-    line.push(b'\n')?;
-    Ok(line)
-}
-
-/// The row of a balance; nothing where it is zero.
-fn amount_row(
-    alloc: Global,
-    styles: &Styles,
-    account: &str,
-    unit: Unit,
-    qty: i64,
-) -> Result<Vec<u8>, Cause>
-    requires { IsDeclared styles.now unit qty }
-    ensures ok { IfOk result (λ row. row.items ≡ amount_piece Layout.Json styles.now account.now unit qty) }
-    ensures memory { IsOkUnless result Cause.OutOfMemory }
-{
-    let mut row = Vec::new(alloc);
-    if qty == 0 {
-        return Ok(row);
-    }
-    let amount = amount_cell(alloc, styles, unit, qty)?;
-    push_cells(&[&amount, account.as_bytes()], &mut row)?;
-    Ok(row)
-}
-
-/// The line of a balance, or its row; nothing where it is zero.
-fn amount_piece(
+/// Appends the row of a balance: the amount and the account; nothing where it is zero.
+fn push_amount(
     alloc: Global,
     styles: &Styles,
     account: &str,
     unit: Unit,
     qty: i64,
     layout: Layout,
-) -> Result<Vec<u8>, Cause>
+    rows: &mut Vec<u8>,
+) -> Result<(), Cause>
     requires { IsDeclared styles.now unit qty }
-    ensures ok { IfOk result (λ piece. piece.items ≡ amount_piece layout styles.now account.now unit qty) }
+    ensures ok { OnOk result (rows.new.items
+        ≡ rows.old.items ++ rows_in layout (amount_row styles.now account.now unit qty)) }
     ensures memory { IsOkUnless result Cause.OutOfMemory }
 {
-    match layout {
-        Layout::Text => amount_line(alloc, styles, account, unit, qty),
-        Layout::Json => amount_row(alloc, styles, account, unit, qty),
+    if qty == 0 {
+        return Ok(());
     }
+    let amount = amount_cell(alloc, styles, unit, qty)?;
+    let cells = [
+        (Column::Amount, amount.as_slice()),
+        (Column::End, account.as_bytes()),
+    ];
+    push_row(alloc, layout, &cells, rows)
 }
 
-/// Appends the line of the account's own balance in a commodity, or its row.
+/// Appends the row of the account's own balance in a commodity.
 fn push_balance<L: Ledger>(
     alloc: Global,
     ledger: &L,
@@ -88,27 +52,19 @@ fn push_balance<L: Ledger>(
     account: &str,
     unit: Unit,
     layout: Layout,
-    out: &mut Vec<u8>,
+    rows: &mut Vec<u8>,
 ) -> Result<(), Cause>
     requires known { unit.0 < length styles.now }
     requires room { HasRoom (L.book ledger.now) }
-    ensures ok { OnOk result (out.new.items
-        ≡ out.old.items ++ balance_piece layout styles.now (L.book ledger.now) day account.now unit) }
-    ensures err { OnErr result (out.new.items ≡ out.old.items) }
+    ensures ok { OnOk result (rows.new.items
+        ≡ rows.old.items ++ rows_in layout (balance_row styles.now (L.book ledger.now) day account.now unit)) }
     ensures memory { IsOkUnless result Cause.OutOfMemory }
 {
     let qty = ledger.balance(account, unit, day);
-    let piece = match amount_piece(alloc, styles, account, unit, qty, layout) {
-        Ok(piece) => piece,
-        Err(cause) => return Err(cause),
-    };
-    match out.extend_from_slice(&piece) {
-        Ok(()) => Ok(()),
-        Err(error) => Err(Cause::from(error)),
-    }
+    push_amount(alloc, styles, account, unit, qty, layout, rows)
 }
 
-/// Appends the lines or rows of an account, in the order in which the commodities were declared.
+/// Appends the rows of an account, in the order in which the commodities were declared.
 fn push_account<L: Ledger>(
     alloc: Global,
     ledger: &L,
@@ -116,59 +72,74 @@ fn push_account<L: Ledger>(
     day: Day,
     account: &str,
     layout: Layout,
-    out: &mut Vec<u8>,
+    rows: &mut Vec<u8>,
 ) -> Result<(), Cause>
     requires { HasRoom (L.book ledger.now) }
-    ensures ok { OnOk result (out.new.items
-        ≡ out.old.items ++ account_pieces layout styles.now (L.book ledger.now) day account.now) }
-    ensures err { OnErr result (take (length out.old.items) out.new.items ≡ out.old.items) }
+    ensures ok { OnOk result (rows.new.items
+        ≡ rows.old.items ++ rows_in layout (account_rows styles.now (L.book ledger.now) day account.now)) }
     ensures memory { IsOkUnless result Cause.OutOfMemory }
 {
     styles.are_styles();
     let mut number = 0;
     'units: while styles.style(Unit(number)).is_some() {
-        match push_balance(
-            alloc,
-            ledger,
-            styles,
-            day,
-            account,
-            Unit(number),
-            layout,
-            out,
-        ) {
-            Ok(()) => number += 1,
-            Err(cause) => return Err(cause),
-        }
+        let unit = Unit(number);
+        push_balance(alloc, ledger, styles, day, account, unit, layout, rows)?;
+        number += 1;
     }
     Ok(())
 }
 
-/// Appends the balances of a book through the day that are not zero. Where memory is refused, the vector is as it was.
-fn push_balances<L: Ledger>(
+/// The rows of the balances of a book through the day that are not zero.
+fn rows_of<L: Ledger>(
     alloc: Global,
     ledger: &L,
     styles: &Styles,
     day: Day,
     layout: Layout,
-    out: &mut Vec<u8>,
-) -> Result<(), Cause>
+) -> Result<Vec<u8>, Cause>
     requires { HasRoom (L.book ledger.now) }
-    ensures ok { OnOk result (out.new.items ≡ out.old.items ++ book_pieces layout styles.now (L.book ledger.now) day) }
-    ensures err { OnErr result (out.new.items ≡ out.old.items) }
+    ensures ok { IfOk result (λ rows. rows.items ≡ rows_in layout (book_rows styles.now (L.book ledger.now) day)) }
     ensures memory { IsOkUnless result Cause.OutOfMemory }
 {
-    let before = out.len();
+    let mut rows = Vec::new(alloc);
     'accounts: for account in ledger.accounts() {
-        match push_account(alloc, ledger, styles, day, account.as_str(), layout, out) {
-            Ok(()) => {}
-            Err(cause) => {
-                out.truncate(before);
-                return Err(cause);
-            }
-        }
+        push_account(
+            alloc,
+            ledger,
+            styles,
+            day,
+            account.as_str(),
+            layout,
+            &mut rows,
+        )?;
     }
-    Ok(())
+    Ok(rows)
+}
+
+/// Appends what `balance_report` does, in a layout; in JSON of each balance the amount and the account.
+///
+/// Refuses as it does, and costs as much.
+pub fn balance_report_in<L: Ledger>(
+    alloc: Global,
+    state: &State<L>,
+    branch: &str,
+    day: Day,
+    layout: Layout,
+    out: &mut Vec<u8>,
+) -> Result<(), Cause>
+    ensures ok { OnOk result (out.new.items
+        ≡ out.old.items ++ report_as layout (balance_rows state.now branch.now day)) }
+    ensures unknown { (result ≡ Err Cause.UnknownBranch) ↔ (has_branch state.now branch.now ≡ false) }
+    ensures err { OnErr result (out.new.items ≡ out.old.items) }
+    ensures causes { IfErr result (λ cause. (cause ≡ Cause.UnknownBranch) ⊎ (cause ≡ Cause.OutOfMemory)) }
+{
+    let Some(ledger) = state.ledger(branch) else {
+        return Err(Cause::UnknownBranch);
+    };
+    match rows_of(alloc, ledger, state.styles(), day, layout) {
+        Ok(rows) => push_written(layout, rows, out),
+        Err(cause) => Err(cause),
+    }
 }
 
 /// Appends the balances of a branch through the day that are not zero: a line for each account, without its
@@ -188,33 +159,5 @@ pub fn balance_report<L: Ledger>(
     ensures err { OnErr result (out.new.items ≡ out.old.items) }
     ensures causes { IfErr result (λ cause. (cause ≡ Cause.UnknownBranch) ⊎ (cause ≡ Cause.OutOfMemory)) }
 {
-    let Some(ledger) = state.ledger(branch) else {
-        return Err(Cause::UnknownBranch);
-    };
-    push_balances(alloc, ledger, state.styles(), day, Layout::Text, out)
-}
-
-/// Appends them in JSON: an array of rows, each an array of two cells, the amount and the account.
-///
-/// Refuses as `balance_report` does; the vector is then as it was.
-pub fn balance_json<L: Ledger>(
-    alloc: Global,
-    state: &State<L>,
-    branch: &str,
-    day: Day,
-    out: &mut Vec<u8>,
-) -> Result<(), Cause>
-    ensures ok { OnOk result (out.new.items ≡ out.old.items ++ rows_text (balance_rows state.now branch.now day)) }
-    ensures unknown { (result ≡ Err Cause.UnknownBranch) ↔ (has_branch state.now branch.now ≡ false) }
-    ensures err { OnErr result (out.new.items ≡ out.old.items) }
-    ensures causes { IfErr result (λ cause. (cause ≡ Cause.UnknownBranch) ⊎ (cause ≡ Cause.OutOfMemory)) }
-{
-    let Some(ledger) = state.ledger(branch) else {
-        return Err(Cause::UnknownBranch);
-    };
-    let mut rows = Vec::new(alloc);
-    match push_balances(alloc, ledger, state.styles(), day, Layout::Json, &mut rows) {
-        Ok(()) => push_rows(&rows, out),
-        Err(cause) => Err(cause),
-    }
+    balance_report_in(alloc, state, branch, day, Layout::Text, out)
 }

@@ -1,20 +1,14 @@
-//! Columns of a report.
+//! Texts of cells, and how they are aligned.
 
-ghost use Rattle.std.specs.Prelude.{◌≡◌, ◌++◌, decimal, OnOk, IfOk, string_bytes};
+ghost use Rattle.std.specs.Prelude.{◌≡◌, ◌++◌, decimal, replicate, OnOk, IfOk, string_bytes};
 ghost use Rattle.std.specs.Result.{IsOkUnless};
 ghost use Rattle.money_core.specs.AmountText.{IsDeclared, printed_in};
 ghost use Rattle.journal_lines.specs.Date.{IsDayNumber, printed_date};
-ghost use Rattle.treasury_reports.specs.Columns.{is_continuation, char_count, right_aligned, amount_column};
+ghost use Rattle.treasury_reports.specs.Columns.{is_continuation, char_count, right_aligned, left_aligned};
 
 use journal_lines::print_date;
 use money_core::{Cause, Day, Styles, Unit, print_amount};
 use std::alloc::{AllocError, Global};
-
-/// How wide an amount stands in a report, in characters.
-const AMOUNT_WIDTH: usize = 20;
-
-/// How wide the number of an entry, or of entries, stands in a report, in characters.
-const NUMBER_WIDTH: usize = 6;
 
 /// Whether the byte goes on with a character, in UTF-8.
 fn is_continuation(byte: u8) -> bool
@@ -30,41 +24,38 @@ fn char_count(text: &[u8]) -> usize
     text.iter().filter(|byte| !is_continuation(**byte)).count()
 }
 
-/// Appends the text, right-aligned in `width` characters.
-pub fn push_right_aligned(out: &mut Vec<u8>, width: usize, text: &[u8]) -> Result<(), AllocError>
-    ensures { OnOk result (out.new.items ≡ out.old.items ++ right_aligned width text.now) }
+/// Appends so many blanks.
+fn push_blanks(out: &mut Vec<u8>, count: usize) -> Result<(), AllocError>
+    ensures { OnOk result (out.new.items ≡ out.old.items ++ replicate count 32) }
 {
-    let blanks = width.saturating_sub(char_count(text));
-    'blanks: for _ in 0..blanks {
+    'blanks: for _ in 0..count {
         out.push(b' ')?;
     }
+    Ok(())
+}
+
+/// Appends the text, right-aligned in `width` characters.
+pub(crate) fn push_right_aligned(
+    out: &mut Vec<u8>,
+    width: usize,
+    text: &[u8],
+) -> Result<(), AllocError>
+    ensures { OnOk result (out.new.items ≡ out.old.items ++ right_aligned width text.now) }
+{
+    push_blanks(out, width.saturating_sub(char_count(text)))?;
     out.extend_from_slice(text)
 }
 
-/// Appends the number of an entry, or of entries, in its column.
-pub fn push_number(alloc: Global, number: usize, out: &mut Vec<u8>) -> Result<(), AllocError>
-    ensures { OnOk result (out.new.items ≡ out.old.items ++ right_aligned 6 (decimal number)) }
-{
-    let text = format!(in alloc; "{number}")?;
-    push_right_aligned(out, NUMBER_WIDTH, text.as_bytes())
-}
-
-/// Appends a quantity of a commodity, in smallest units, as an amount in its column.
-pub fn push_amount(
-    alloc: Global,
-    styles: &Styles,
-    unit: Unit,
-    qty: i64,
+/// Appends the text, left-aligned in `width` characters.
+pub(crate) fn push_left_aligned(
     out: &mut Vec<u8>,
-) -> Result<(), Cause>
-    requires { IsDeclared styles.now unit qty }
-    ensures ok { OnOk result (out.new.items ≡ out.old.items ++ amount_column styles.now unit qty) }
-    ensures memory { IsOkUnless result Cause.OutOfMemory }
+    width: usize,
+    text: &[u8],
+) -> Result<(), AllocError>
+    ensures { OnOk result (out.new.items ≡ out.old.items ++ left_aligned width text.now) }
 {
-    let mut amount = Vec::new(alloc);
-    print_amount(alloc, unit, qty, styles, &mut amount)?;
-    push_right_aligned(out, AMOUNT_WIDTH, &amount)?;
-    Ok(())
+    out.extend_from_slice(text)?;
+    push_blanks(out, width.saturating_sub(char_count(text)))
 }
 
 /// A quantity of a commodity, in smallest units, as an amount alone.

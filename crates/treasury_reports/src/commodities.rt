@@ -3,15 +3,15 @@
 ghost use Rattle.std.specs.Prelude.{◌≡◌, ◌++◌, ◌<◌, true, length, slice_get, Some, IfOk, OnOk, OnErr};
 ghost use Rattle.std.specs.Result.{IsOkUnless};
 ghost use Rattle.std.specs.List.{flat_map};
-ghost use Rattle.json_text.specs.JsonText.{rows_text};
 ghost use Rattle.money_core.specs.declared.style.Style.{Style as Kind};
 ghost use Rattle.money_core.specs.AmountText.{gap, printed_symbol};
 ghost use Rattle.money_core.specs.Symbol.{is_symbol, is_bare};
-ghost use Rattle.treasury_reports.specs.CommoditiesReport.{sample_number, sample_text, sample_line, commodities_text};
-ghost use Rattle.treasury_reports.specs.CommoditiesReport.{thousand, AreSamples, sample_cells, commodities_rows};
-ghost use Rattle.treasury_reports.specs.Layout.{comma_row, sample_piece};
+ghost use Rattle.treasury_reports.specs.Rows.{report_as};
+ghost use Rattle.treasury_reports.specs.CommoditiesReport.{sample_number, sample_text, thousand, AreSamples};
+ghost use Rattle.treasury_reports.specs.CommoditiesReport.{sample_cells, commodities_rows};
+ghost use Rattle.treasury_reports.specs.Written.{row_in};
 
-use crate::layout::{Layout, push_cells, push_rows};
+use crate::rows::{Column, Layout, push_row, push_written};
 use book_core::Ledger;
 use money_core::{Cause, Mark, Style, Styles, Unit, read_symbol};
 use std::alloc::{AllocError, Global};
@@ -95,73 +95,48 @@ fn push_sample(style: &Style, out: &mut Vec<u8>) -> Result<(), AllocError>
     Ok(())
 }
 
-/// Appends the line of a style.
-fn push_style_line(style: &Style, out: &mut Vec<u8>) -> Result<(), AllocError>
+/// Appends the row of a style: its sample.
+fn push_style(alloc: Global, style: &Style, layout: Layout, rows: &mut Vec<u8>) -> Result<(), Cause>
     requires { is_symbol style.now.symbol ≡ true }
-    ensures { OnOk result (out.new.items ≡ out.old.items ++ sample_line style.now) }
-{
-    push_sample(style, out)?;
-    out.push(b'\n')?;
-    Ok(())
-}
-
-/// Appends the row of a style.
-fn push_style_row(alloc: Global, style: &Style, rows: &mut Vec<u8>) -> Result<(), Cause>
-    requires { is_symbol style.now.symbol ≡ true }
-    ensures ok { OnOk result (rows.new.items ≡ rows.old.items ++ comma_row (sample_cells style.now)) }
+    ensures ok { OnOk result (rows.new.items ≡ rows.old.items ++ row_in layout (sample_cells style.now)) }
     ensures memory { IsOkUnless result Cause.OutOfMemory }
 {
     let mut sample = Vec::new(alloc);
     push_sample(style, &mut sample)?;
-    push_cells(&[&sample], rows)
+    push_row(alloc, layout, &[(Column::End, sample.as_slice())], rows)
 }
 
-/// Appends the line of a style, or its row.
-fn push_style(alloc: Global, style: &Style, layout: Layout, out: &mut Vec<u8>) -> Result<(), Cause>
-    requires { is_symbol style.now.symbol ≡ true }
-    ensures ok { OnOk result (out.new.items ≡ out.old.items ++ sample_piece layout style.now) }
-    ensures memory { IsOkUnless result Cause.OutOfMemory }
-{
-    match layout {
-        Layout::Text => {
-            push_style_line(style, out)?;
-            Ok(())
-        }
-        Layout::Json => push_style_row(alloc, style, out),
-    }
-}
-
-/// Appends the line of a commodity, or its row.
+/// Appends the row of a commodity.
 fn push_commodity(
     alloc: Global,
     styles: &Styles,
     unit: Unit,
     layout: Layout,
-    out: &mut Vec<u8>,
+    rows: &mut Vec<u8>,
 ) -> Result<(), Cause>
     requires { unit.0 < length styles.now }
     ensures ok { (s : Kind) → slice_get styles.now unit.0 ≡ Some s
-        → OnOk result (out.new.items ≡ out.old.items ++ sample_piece layout s) }
+        → OnOk result (rows.new.items ≡ rows.old.items ++ row_in layout (sample_cells s)) }
     ensures memory { IsOkUnless result Cause.OutOfMemory }
 {
     styles.are_styles();
     let style = styles.style(unit).unwrap();
-    push_style(alloc, style, layout, out)
+    push_style(alloc, style, layout, rows)
 }
 
-/// The lines of commodities, or their rows.
-fn text_of(alloc: Global, styles: &Styles, layout: Layout) -> Result<Vec<u8>, Cause>
-    ensures ok { IfOk result (λ text. text.items ≡ flat_map (sample_piece layout) styles.now) }
+/// The rows of commodities.
+fn rows_of(alloc: Global, styles: &Styles, layout: Layout) -> Result<Vec<u8>, Cause>
+    ensures ok { IfOk result (λ rows. rows.items ≡ flat_map (λ s. row_in layout (sample_cells s)) styles.now) }
     ensures memory { IsOkUnless result Cause.OutOfMemory }
 {
     styles.are_styles();
-    let mut text = Vec::new(alloc);
+    let mut rows = Vec::new(alloc);
     let mut number = 0;
     'units: while styles.style(Unit(number)).is_some() {
-        push_commodity(alloc, styles, Unit(number), layout, &mut text)?;
+        push_commodity(alloc, styles, Unit(number), layout, &mut rows)?;
         number += 1;
     }
-    Ok(text)
+    Ok(rows)
 }
 
 /// Appends the commodities, in declared order: of each the canonical sample, which declares it.
@@ -170,36 +145,15 @@ fn text_of(alloc: Global, styles: &Styles, layout: Layout) -> Result<Vec<u8>, Ca
 pub fn commodities_report<L: Ledger>(
     alloc: Global,
     state: &State<L>,
+    layout: Layout,
     out: &mut Vec<u8>,
 ) -> Result<(), Cause>
-    ensures ok { OnOk result (out.new.items ≡ out.old.items ++ commodities_text state.now) }
+    ensures ok { OnOk result (out.new.items ≡ out.old.items ++ report_as layout (commodities_rows state.now)) }
     ensures err { OnErr result (out.new.items ≡ out.old.items) }
     ensures memory { IsOkUnless result Cause.OutOfMemory }
 {
-    let text = match text_of(alloc, state.styles(), Layout::Text) {
-        Ok(text) => text,
-        Err(cause) => return Err(cause),
-    };
-    match out.extend_from_slice(&text) {
-        Ok(()) => Ok(()),
-        Err(error) => Err(Cause::from(error)),
-    }
-}
-
-/// Appends them in JSON: an array of rows, each an array of one cell, the sample.
-///
-/// Where memory is refused, it answers 40, and the vector is as it was.
-pub fn commodities_json<L: Ledger>(
-    alloc: Global,
-    state: &State<L>,
-    out: &mut Vec<u8>,
-) -> Result<(), Cause>
-    ensures ok { OnOk result (out.new.items ≡ out.old.items ++ rows_text (commodities_rows state.now)) }
-    ensures err { OnErr result (out.new.items ≡ out.old.items) }
-    ensures memory { IsOkUnless result Cause.OutOfMemory }
-{
-    match text_of(alloc, state.styles(), Layout::Json) {
-        Ok(rows) => push_rows(&rows, out),
+    match rows_of(alloc, state.styles(), layout) {
+        Ok(rows) => push_written(layout, rows, out),
         Err(cause) => Err(cause),
     }
 }

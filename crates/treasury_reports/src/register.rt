@@ -4,115 +4,54 @@ ghost use Rattle.std.specs.Prelude.{◌≡◌, ◌↔◌, ◌⊎◌, ◌++◌, �
 ghost use Rattle.std.specs.Prelude.{IfOk, OnOk, OnErr, IfErr, Err, option_copied};
 ghost use Rattle.std.specs.Result.{IsOkUnless};
 ghost use Rattle.std.specs.List.{AllByRecursion};
-ghost use Rattle.json_text.specs.JsonText.{rows_text};
 ghost use Rattle.money_core.specs.Amount.{limit};
 ghost use Rattle.money_core.specs.AmountText.{IsDeclared};
 ghost use Rattle.book_core.specs.GoodBook.{HasRoom};
 ghost use Rattle.treasury_state.specs.Federation.{has_branch, entries};
 ghost use Rattle.treasury_state.specs.Good.{IsGoodRecord};
-ghost use Rattle.treasury_reports.specs.RegisterReport.{register_line, register_text, register_cells, register_rows};
-ghost use Rattle.treasury_reports.specs.Layout.{comma_row, register_piece, register_pieces};
-ghost use Rattle.treasury_reports.specs.RegisterReport.{description_column, by_day, listed_from};
+ghost use Rattle.treasury_reports.specs.Rows.{report_as};
+ghost use Rattle.treasury_reports.specs.RegisterReport.{register_cells, rows_behind, register_rows, register_text};
+ghost use Rattle.treasury_reports.specs.RegisterReport.{by_day, listed_from};
 ghost use Rattle.treasury_reports.specs.Lent.{IsListable, HaveRoom, sum_at};
+ghost use Rattle.treasury_reports.specs.Written.{row_in, rows_in};
 
 use crate::branch::records_of;
-use crate::columns::{amount_cell, date_cell, number_cell, push_amount, push_number};
-use crate::layout::{Layout, push_cells, push_rows};
+use crate::columns::{amount_cell, date_cell, number_cell};
 use crate::listed::{Listed, listed_of, sort_by_day};
+use crate::rows::{Column, Layout, push_row, push_written};
 use book_core::Ledger;
-use journal_lines::print_date;
 use money_core::{Cause, Styles, Unit};
-use std::alloc::{AllocError, Global};
+use std::alloc::Global;
 use treasury_state::{Record, State};
 
-/// Appends a description after two spaces, where it is not empty.
-fn push_description(description: &[u8], out: &mut Vec<u8>) -> Result<(), AllocError>
-    ensures { OnOk result (out.new.items ≡ out.old.items ++ description_column description.now) }
-{
-    if description.is_empty() {
-        return Ok(());
-    }
-    out.extend_from_slice(b"  ")?;
-    out.extend_from_slice(description)
-}
-
-/// Appends the line of a listed leg, with the sum so far.
-fn push_line(
-    alloc: Global,
-    styles: &Styles,
-    one: &Listed,
-    sum: i64,
-    out: &mut Vec<u8>,
-) -> Result<(), Cause>
-    requires listable { IsListable styles.now one.now }
-    requires sum { IsDeclared styles.now one.now.leg.unit sum }
-    ensures ok { OnOk result (out.new.items ≡ out.old.items ++ register_line styles.now one.now sum) }
-    ensures memory { IsOkUnless result Cause.OutOfMemory }
-{
-    print_date(alloc, one.day, out)?;
-    out.extend_from_slice(b"  ")?;
-    push_number(alloc, one.number, out)?;
-    out.extend_from_slice(b"  ")?;
-    push_amount(alloc, styles, one.leg.unit, one.leg.qty, out)?;
-    out.extend_from_slice(b"  ")?;
-    push_amount(alloc, styles, one.leg.unit, sum, out)?;
-    out.extend_from_slice(b"  ")?;
-    out.extend_from_slice(one.leg.account.as_str().as_bytes())?;
-    push_description(one.description.as_str().as_bytes(), out)?;
-    out.push(b'\n')?;
-    Ok(())
-}
-
 /// Appends the row of a listed leg, with the sum so far.
-fn push_row(
-    alloc: Global,
-    styles: &Styles,
-    one: &Listed,
-    sum: i64,
-    rows: &mut Vec<u8>,
-) -> Result<(), Cause>
-    requires listable { IsListable styles.now one.now }
-    requires sum { IsDeclared styles.now one.now.leg.unit sum }
-    ensures ok { OnOk result (rows.new.items ≡ rows.old.items ++ comma_row (register_cells styles.now one.now sum)) }
-    ensures memory { IsOkUnless result Cause.OutOfMemory }
-{
-    let day = date_cell(alloc, one.day)?;
-    let number = number_cell(alloc, one.number)?;
-    let amount = amount_cell(alloc, styles, one.leg.unit, one.leg.qty)?;
-    let total = amount_cell(alloc, styles, one.leg.unit, sum)?;
-    let account = one.leg.account.as_str().as_bytes();
-    let description = one.description.as_str().as_bytes();
-    push_cells(
-        &[
-            &day,
-            number.as_bytes(),
-            &amount,
-            &total,
-            account,
-            description,
-        ],
-        rows,
-    )
-}
-
-/// Appends the line of a listed leg, or its row, with the sum so far.
 fn push_listed(
     alloc: Global,
     styles: &Styles,
     one: &Listed,
     sum: i64,
     layout: Layout,
-    out: &mut Vec<u8>,
+    rows: &mut Vec<u8>,
 ) -> Result<(), Cause>
     requires listable { IsListable styles.now one.now }
     requires sum { IsDeclared styles.now one.now.leg.unit sum }
-    ensures ok { OnOk result (out.new.items ≡ out.old.items ++ register_piece layout styles.now one.now sum) }
+    ensures ok { OnOk result (rows.new.items
+        ≡ rows.old.items ++ row_in layout (register_cells styles.now one.now sum)) }
     ensures memory { IsOkUnless result Cause.OutOfMemory }
 {
-    match layout {
-        Layout::Text => push_line(alloc, styles, one, sum, out),
-        Layout::Json => push_row(alloc, styles, one, sum, out),
-    }
+    let day = date_cell(alloc, one.day)?;
+    let number = number_cell(alloc, one.number)?;
+    let amount = amount_cell(alloc, styles, one.leg.unit, one.leg.qty)?;
+    let total = amount_cell(alloc, styles, one.leg.unit, sum)?;
+    let cells = [
+        (Column::Plain, day.as_slice()),
+        (Column::Number, number.as_bytes()),
+        (Column::Amount, amount.as_slice()),
+        (Column::Amount, total.as_slice()),
+        (Column::End, one.leg.account.as_str().as_bytes()),
+        (Column::Note, one.description.as_str().as_bytes()),
+    ];
+    push_row(alloc, layout, &cells, rows)
 }
 
 /// Adds to the sum of a commodity, and answers it.
@@ -128,30 +67,25 @@ fn add_to(sums: &mut Vec<i64>, unit: Unit, qty: i64) -> i64
     sum
 }
 
-/// The lines of listed legs, or their rows, each with the sum so far in its commodity. One pass: the sums are kept.
-fn lines_of(
-    alloc: Global,
-    styles: &Styles,
-    all: &[Listed],
-    layout: Layout,
-) -> Result<Vec<u8>, Cause>
+/// The rows of listed legs, each with the sum so far in its commodity. One pass: the sums are kept.
+fn rows_of(alloc: Global, styles: &Styles, all: &[Listed], layout: Layout) -> Result<Vec<u8>, Cause>
     requires listable { AllByRecursion (IsListable styles.now) all.now }
     requires room { HaveRoom all.now }
-    ensures ok { IfOk result (λ text. text.items ≡ register_pieces layout styles.now [] all.now) }
+    ensures ok { IfOk result (λ rows. rows.items ≡ rows_in layout (rows_behind styles.now [] all.now)) }
     ensures memory { IsOkUnless result Cause.OutOfMemory }
 {
-    let mut text = Vec::new(alloc);
+    let mut rows = Vec::new(alloc);
     let mut sums: Vec<i64> = Vec::new(alloc);
     sums.resize(styles.len(), 0)?;
     'lines: for one in all {
         let sum = add_to(&mut sums, one.leg.unit, one.leg.qty);
-        push_listed(alloc, styles, one, sum, layout, &mut text)?;
+        push_listed(alloc, styles, one, sum, layout, &mut rows)?;
     }
-    Ok(text)
+    Ok(rows)
 }
 
-/// The register of an account over the records of a branch, in order of place, as lines or rows.
-fn text_of(
+/// The rows of the register of an account over the records of a branch, in order of place.
+fn rows_in_order(
     alloc: Global,
     styles: &Styles,
     records: &[Record],
@@ -161,14 +95,42 @@ fn text_of(
 ) -> Result<Vec<u8>, Cause>
     requires good { AllByRecursion (IsGoodRecord styles.now) records.now }
     requires room { HasRoom (entries records.now) }
-    ensures ok { IfOk result (λ text. text.items
-        ≡ register_pieces layout styles.now []
-        (by_day (listed_from account.now (option_copied tag.entry) 1 records.now))) }
+    ensures ok { IfOk result (λ rows. rows.items ≡ rows_in layout (rows_behind styles.now []
+        (by_day (listed_from account.now (option_copied tag.entry) 1 records.now)))) }
     ensures memory { IsOkUnless result Cause.OutOfMemory }
 {
     let mut all = listed_of(alloc, records, account, tag)?;
     sort_by_day(&mut all)?;
-    lines_of(alloc, styles, &all, layout)
+    rows_of(alloc, styles, &all, layout)
+}
+
+/// Appends what `register_report` does, in a layout; in JSON of each leg the day, the number of the entry, the amount,
+/// the sum so far, the account and the description.
+///
+/// Refuses as it does, and costs as much.
+pub fn register_report_in<L: Ledger>(
+    alloc: Global,
+    state: &State<L>,
+    branch: &str,
+    account: &str,
+    tag: Option<&str>,
+    layout: Layout,
+    out: &mut Vec<u8>,
+) -> Result<(), Cause>
+    ensures ok { OnOk result (out.new.items ≡ out.old.items
+        ++ report_as layout (register_rows state.now branch.now account.now (option_copied tag.entry))) }
+    ensures unknown { (result ≡ Err Cause.UnknownBranch) ↔ (has_branch state.now branch.now ≡ false) }
+    ensures err { OnErr result (out.new.items ≡ out.old.items) }
+    ensures causes { IfErr result (λ cause. (cause ≡ Cause.UnknownBranch) ⊎ (cause ≡ Cause.OutOfMemory)) }
+{
+    let Some(records) = records_of(state, branch) else {
+        return Err(Cause::UnknownBranch);
+    };
+    state.is_good();
+    match rows_in_order(alloc, state.styles(), records, account, tag, layout) {
+        Ok(rows) => push_written(layout, rows, out),
+        Err(cause) => Err(cause),
+    }
 }
 
 /// Appends the register of an account and its subaccounts in a branch, in order of place: a line for each leg, with the
@@ -191,44 +153,5 @@ pub fn register_report<L: Ledger>(
     ensures err { OnErr result (out.new.items ≡ out.old.items) }
     ensures causes { IfErr result (λ cause. (cause ≡ Cause.UnknownBranch) ⊎ (cause ≡ Cause.OutOfMemory)) }
 {
-    let Some(records) = records_of(state, branch) else {
-        return Err(Cause::UnknownBranch);
-    };
-    state.is_good();
-    let text = match text_of(alloc, state.styles(), records, account, tag, Layout::Text) {
-        Ok(text) => text,
-        Err(cause) => return Err(cause),
-    };
-    match out.extend_from_slice(&text) {
-        Ok(()) => Ok(()),
-        Err(error) => Err(Cause::from(error)),
-    }
-}
-
-/// Appends it in JSON: an array of rows, each an array of six cells, the day, the number of the entry, the amount, the
-/// sum so far, the account and the description.
-///
-/// Refuses as `register_report` does; the vector is then as it was.
-pub fn register_json<L: Ledger>(
-    alloc: Global,
-    state: &State<L>,
-    branch: &str,
-    account: &str,
-    tag: Option<&str>,
-    out: &mut Vec<u8>,
-) -> Result<(), Cause>
-    ensures ok { OnOk result (out.new.items
-        ≡ out.old.items ++ rows_text (register_rows state.now branch.now account.now (option_copied tag.entry))) }
-    ensures unknown { (result ≡ Err Cause.UnknownBranch) ↔ (has_branch state.now branch.now ≡ false) }
-    ensures err { OnErr result (out.new.items ≡ out.old.items) }
-    ensures causes { IfErr result (λ cause. (cause ≡ Cause.UnknownBranch) ⊎ (cause ≡ Cause.OutOfMemory)) }
-{
-    let Some(records) = records_of(state, branch) else {
-        return Err(Cause::UnknownBranch);
-    };
-    state.is_good();
-    match text_of(alloc, state.styles(), records, account, tag, Layout::Json) {
-        Ok(rows) => push_rows(&rows, out),
-        Err(cause) => Err(cause),
-    }
+    register_report_in(alloc, state, branch, account, tag, Layout::Text, out)
 }

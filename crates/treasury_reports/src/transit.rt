@@ -4,17 +4,15 @@ ghost use Rattle.std.specs.Prelude.{◌≡◌, ◌++◌, ◌<◌, filter, length
 ghost use Rattle.std.specs.Result.{IsOkUnless};
 ghost use Rattle.std.specs.List.{list_any, flat_map};
 ghost use Rattle.std.specs.Str.{bytes_eq};
-ghost use Rattle.json_text.specs.JsonText.{rows_text};
-ghost use Rattle.treasury_state.specs.Federation.{Federation};
-ghost use Rattle.treasury_reports.specs.TransitReport.{is_from, is_way, open_line, branch_names, transit_text};
-ghost use Rattle.treasury_reports.specs.TransitReport.{open_cells, transit_rows};
-ghost use Rattle.treasury_reports.specs.Layout.{comma_row, open_piece, transit_piece, way_pieces, pieces_from};
-ghost use Rattle.treasury_reports.specs.Layout.{transit_pieces};
+ghost use Rattle.treasury_reports.specs.Rows.{report_as};
+ghost use Rattle.treasury_reports.specs.TransitReport.{is_from, is_way, open_cells, transit_row, way_rows, rows_from};
+ghost use Rattle.treasury_reports.specs.TransitReport.{branch_names, transit_rows, transit_text};
 ghost use Rattle.treasury_reports.specs.Lent.{lent};
+ghost use Rattle.treasury_reports.specs.Written.{row_in, rows_in};
 
-use crate::columns::{amount_cell, push_amount};
-use crate::layout::{Layout, push_cells, push_rows};
+use crate::columns::amount_cell;
 use crate::names::names_in_order;
+use crate::rows::{Column, Layout, push_row, push_written};
 use book_core::Ledger;
 use money_core::{Cause, Day, Text, Unit};
 use std::alloc::Global;
@@ -72,53 +70,7 @@ fn has_unit(sent: &[&Transfer], unit: Unit) -> bool
     false
 }
 
-/// Appends the line of what is open between two branches in a commodity.
-fn push_open_line<L: Ledger>(
-    alloc: Global,
-    state: &State<L>,
-    day: Day,
-    from: &str,
-    to: &str,
-    unit: Unit,
-    text: &mut Vec<u8>,
-) -> Result<(), Cause>
-    requires { unit.0 < length state.now.styles }
-    ensures ok { OnOk result (text.new.items ≡ text.old.items ++ open_line state.now day from.now to.now unit) }
-    ensures memory { IsOkUnless result Cause.OutOfMemory }
-{
-    state.is_good();
-    let qty = open_amount(state, from, to, unit, day);
-    push_amount(alloc, state.styles(), unit, qty, text)?;
-    text.extend_from_slice(b"  ")?;
-    text.extend_from_slice(from.as_bytes())?;
-    text.extend_from_slice(b" to ")?;
-    text.extend_from_slice(to.as_bytes())?;
-    text.push(b'\n')?;
-    Ok(())
-}
-
 /// Appends the row of what is open between two branches in a commodity.
-fn push_open_row<L: Ledger>(
-    alloc: Global,
-    state: &State<L>,
-    day: Day,
-    from: &str,
-    to: &str,
-    unit: Unit,
-    rows: &mut Vec<u8>,
-) -> Result<(), Cause>
-    requires { unit.0 < length state.now.styles }
-    ensures ok { OnOk result (rows.new.items
-        ≡ rows.old.items ++ comma_row (open_cells state.now day from.now to.now unit)) }
-    ensures memory { IsOkUnless result Cause.OutOfMemory }
-{
-    state.is_good();
-    let qty = open_amount(state, from, to, unit, day);
-    let amount = amount_cell(alloc, state.styles(), unit, qty)?;
-    push_cells(&[&amount, from.as_bytes(), to.as_bytes()], rows)
-}
-
-/// Appends the line of what is open between two branches in a commodity, or its row.
 fn push_open<L: Ledger>(
     alloc: Global,
     state: &State<L>,
@@ -127,20 +79,25 @@ fn push_open<L: Ledger>(
     to: &str,
     unit: Unit,
     layout: Layout,
-    text: &mut Vec<u8>,
+    rows: &mut Vec<u8>,
 ) -> Result<(), Cause>
     requires { unit.0 < length state.now.styles }
-    ensures ok { OnOk result (text.new.items
-        ≡ text.old.items ++ open_piece layout state.now day from.now to.now unit) }
+    ensures ok { OnOk result (rows.new.items
+        ≡ rows.old.items ++ row_in layout (open_cells state.now day from.now to.now unit)) }
     ensures memory { IsOkUnless result Cause.OutOfMemory }
 {
-    match layout {
-        Layout::Text => push_open_line(alloc, state, day, from, to, unit, text),
-        Layout::Json => push_open_row(alloc, state, day, from, to, unit, text),
-    }
+    state.is_good();
+    let qty = open_amount(state, from, to, unit, day);
+    let amount = amount_cell(alloc, state.styles(), unit, qty)?;
+    let cells = [
+        (Column::Amount, amount.as_slice()),
+        (Column::From, from.as_bytes()),
+        (Column::End, to.as_bytes()),
+    ];
+    push_row(alloc, layout, &cells, rows)
 }
 
-/// Appends that line or row, where a transfer was sent so in the commodity.
+/// Appends that row, where a transfer was sent so in the commodity.
 fn push_unit<L: Ledger>(
     alloc: Global,
     state: &State<L>,
@@ -150,22 +107,22 @@ fn push_unit<L: Ledger>(
     sent: &[&Transfer],
     unit: Unit,
     layout: Layout,
-    text: &mut Vec<u8>,
+    rows: &mut Vec<u8>,
 ) -> Result<(), Cause>
     requires known { unit.0 < length state.now.styles }
     requires sent { lent sent.now ≡ filter (is_way from.now to.now day) state.now.transfers }
-    ensures ok { OnOk result (text.new.items
-        ≡ text.old.items ++ transit_piece layout state.now day from.now to.now unit) }
+    ensures ok { OnOk result (rows.new.items
+        ≡ rows.old.items ++ rows_in layout (transit_row state.now day from.now to.now unit)) }
     ensures memory { IsOkUnless result Cause.OutOfMemory }
 {
     if has_unit(sent, unit) {
-        push_open(alloc, state, day, from, to, unit, layout, text)
+        push_open(alloc, state, day, from, to, unit, layout, rows)
     } else {
         Ok(())
     }
 }
 
-/// Appends the lines or rows from one branch to another, given the transfers that were sent so.
+/// Appends the rows from one branch to another, given the transfers that were sent so.
 fn push_way<L: Ledger>(
     alloc: Global,
     state: &State<L>,
@@ -174,17 +131,18 @@ fn push_way<L: Ledger>(
     to: &str,
     sent: &[&Transfer],
     layout: Layout,
-    text: &mut Vec<u8>,
+    rows: &mut Vec<u8>,
 ) -> Result<(), Cause>
     requires { lent sent.now ≡ filter (is_way from.now to.now day) state.now.transfers }
-    ensures ok { OnOk result (text.new.items ≡ text.old.items ++ way_pieces layout state.now day from.now to.now) }
+    ensures ok { OnOk result (rows.new.items
+        ≡ rows.old.items ++ rows_in layout (way_rows state.now day from.now to.now)) }
     ensures memory { IsOkUnless result Cause.OutOfMemory }
 {
     let styles = state.styles();
     styles.are_styles();
     let mut number = 0;
     'units: while styles.style(Unit(number)).is_some() {
-        match push_unit(
+        push_unit(
             alloc,
             state,
             day,
@@ -193,16 +151,14 @@ fn push_way<L: Ledger>(
             sent,
             Unit(number),
             layout,
-            text,
-        ) {
-            Ok(()) => number += 1,
-            Err(cause) => return Err(cause),
-        }
+            rows,
+        )?;
+        number += 1;
     }
     Ok(())
 }
 
-/// Appends the lines or rows from one branch to each of the branches.
+/// Appends the rows from one branch to each of the branches.
 fn push_from<L: Ledger>(
     alloc: Global,
     state: &State<L>,
@@ -210,36 +166,57 @@ fn push_from<L: Ledger>(
     names: &[Text],
     from: &str,
     layout: Layout,
-    text: &mut Vec<u8>,
+    rows: &mut Vec<u8>,
 ) -> Result<(), Cause>
     requires { names.now ≡ branch_names state.now }
-    ensures ok { OnOk result (text.new.items ≡ text.old.items ++ pieces_from layout state.now day from.now) }
+    ensures ok { OnOk result (rows.new.items ≡ rows.old.items ++ rows_in layout (rows_from state.now day from.now)) }
     ensures memory { IsOkUnless result Cause.OutOfMemory }
 {
     let sent = sent_from(alloc, state.transfers(), from, day)?;
     'targets: for to in names {
         let part = sent_to(alloc, &sent, to.as_str())?;
-        push_way(alloc, state, day, from, to.as_str(), &part, layout, text)?;
+        push_way(alloc, state, day, from, to.as_str(), &part, layout, rows)?;
     }
     Ok(())
 }
 
-/// The lines or rows from each branch to each.
-fn text_of<L: Ledger>(
+/// The rows from each branch to each.
+fn rows_of<L: Ledger>(
     alloc: Global,
     state: &State<L>,
     day: Day,
     layout: Layout,
 ) -> Result<Vec<u8>, Cause>
-    ensures ok { IfOk result (λ text. text.items ≡ transit_pieces layout state.now day) }
+    ensures ok { IfOk result (λ rows. rows.items ≡ rows_in layout (transit_rows state.now day)) }
     ensures memory { IsOkUnless result Cause.OutOfMemory }
 {
     let names = names_in_order(alloc, state.branches())?;
-    let mut text = Vec::new(alloc);
+    let mut rows = Vec::new(alloc);
     'sources: for from in &names {
-        push_from(alloc, state, day, &names, from.as_str(), layout, &mut text)?;
+        push_from(alloc, state, day, &names, from.as_str(), layout, &mut rows)?;
     }
-    Ok(text)
+    Ok(rows)
+}
+
+/// Appends what `transit_report` does, in a layout; in JSON of each line the open amount, the branch that it comes from
+/// and the one that it goes to.
+///
+/// Where memory is refused, it answers 40, and the vector is as it was. Costs as much.
+pub fn transit_report_in<L: Ledger>(
+    alloc: Global,
+    state: &State<L>,
+    day: Day,
+    layout: Layout,
+    out: &mut Vec<u8>,
+) -> Result<(), Cause>
+    ensures ok { OnOk result (out.new.items ≡ out.old.items ++ report_as layout (transit_rows state.now day)) }
+    ensures err { OnErr result (out.new.items ≡ out.old.items) }
+    ensures memory { IsOkUnless result Cause.OutOfMemory }
+{
+    match rows_of(alloc, state, day, layout) {
+        Ok(rows) => push_written(layout, rows, out),
+        Err(cause) => Err(cause),
+    }
 }
 
 /// Appends what is on its way: from each branch to each, in byte order of their names, a line for each commodity in
@@ -257,32 +234,5 @@ pub fn transit_report<L: Ledger>(
     ensures err { OnErr result (out.new.items ≡ out.old.items) }
     ensures memory { IsOkUnless result Cause.OutOfMemory }
 {
-    let text = match text_of(alloc, state, day, Layout::Text) {
-        Ok(text) => text,
-        Err(cause) => return Err(cause),
-    };
-    match out.extend_from_slice(&text) {
-        Ok(()) => Ok(()),
-        Err(error) => Err(Cause::from(error)),
-    }
-}
-
-/// Appends it in JSON: an array of rows, each an array of three cells, the open amount, the branch that it comes from
-/// and the one that it goes to.
-///
-/// Where memory is refused, it answers 40, and the vector is as it was.
-pub fn transit_json<L: Ledger>(
-    alloc: Global,
-    state: &State<L>,
-    day: Day,
-    out: &mut Vec<u8>,
-) -> Result<(), Cause>
-    ensures ok { OnOk result (out.new.items ≡ out.old.items ++ rows_text (transit_rows state.now day)) }
-    ensures err { OnErr result (out.new.items ≡ out.old.items) }
-    ensures memory { IsOkUnless result Cause.OutOfMemory }
-{
-    match text_of(alloc, state, day, Layout::Json) {
-        Ok(rows) => push_rows(&rows, out),
-        Err(cause) => Err(cause),
-    }
+    transit_report_in(alloc, state, day, Layout::Text, out)
 }

@@ -3,8 +3,8 @@ use Rattle.std.proofs.lemmas.Int.{to_z-of_z}
 use Rattle.treasury_reports.proofs.BalanceLemmas.{balance_is_declared}
 use Rattle.treasury_reports.proofs.balance.push_balance.Goals as goal
 
-pub amount_piece-requires : goal.amount_piece-requires
-amount_piece-requires g c =
+pub push_amount-requires : goal.push_amount-requires
+push_amount-requires g c =
     let back = to_z-of_z w64 c.balance-qty.result (search rules) in
     let declared = balance_is_declared c.args.styles.now (g.L.Ledger.book c.args.ledger.now) c.args.account.now
     c.args.unit c.args.day c.requires.known c.requires.room in

@@ -1,4 +1,4 @@
-use Rattle.std.proofs.Common.{◌≡◌, ◌∙◌, List, ℕ}
+use Rattle.std.proofs.Common.{◌∙◌, List, ℕ}
 use Rattle.std.specs.Prelude.{option_map}
 use denote.Ref.{Bor}
 use Rattle.treasury_reports.proofs.SampleLemmas.{reads_bare, some_mapped}

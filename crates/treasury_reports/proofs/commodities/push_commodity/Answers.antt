@@ -1,4 +1,4 @@
-use Rattle.std.proofs.Common.{◌≡◌, ◌∙◌, ap, sym}
+use Rattle.std.proofs.Common.{◌∙◌, ap, sym}
 use Rattle.std.specs.Option.{option_copied}
 use Rattle.treasury_reports.proofs.SampleLemmas.{symbol_at}
 use Rattle.treasury_reports.proofs.commodities.push_commodity.Goals as goal

@@ -1,4 +1,4 @@
-use Rattle.std.proofs.Common.{◌≡◌, Bool, true, false, List, ℕ, ap, ◌∙◌, sym, refl}
+use Rattle.std.proofs.Common.{ap, ◌∙◌}
 use Rattle.book_core.specs.Account.{is_inside}
 use Rattle.treasury_reports.proofs.RegisterLemmas.{inside_test}
 use Rattle.treasury_reports.proofs.listed.is_listed.Goals as goal

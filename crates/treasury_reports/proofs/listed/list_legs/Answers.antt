@@ -1,4 +1,4 @@
-use Rattle.std.proofs.Common.{◌≡◌, ◌++◌, ◌∙◌, List, ap, sym, drop}
+use Rattle.std.proofs.Common.{◌++◌, ◌∙◌, List, ap, sym}
 use Rattle.money_core.proofs.ListLemmas.{drop_at}
 use Rattle.book_core.specs.declared.leg.Leg.{Leg}
 use Rattle.treasury_reports.specs.RegisterReport.{listed_legs}

@@ -1,4 +1,4 @@
-use Rattle.std.proofs.Common.{◌≡◌, ◌≤◌, ◌++◌, ◌∷◌, ◌∙◌, [], List, ℕ, length, take, arith, ap, sym}
+use Rattle.std.proofs.Common.{◌≤◌, ◌++◌, ◌∷◌, ◌∙◌, [], List, ℕ, length, take, arith, ap, sym}
 use Rattle.std.proofs.lemmas.List.{take_all}
 use Rattle.book_core.specs.Accounts.{ordered_names}
 use Rattle.treasury_state.specs.Seen.{branches_of}

@@ -1,7 +1,8 @@
 use Rattle.std.proofs.Common.{◌≡◌, ◌++◌, ◌-◌, ◌≤◌, length}
 use Rattle.std.specs.List.{flat_map}
 use Rattle.treasury_reports.specs.BalanceReport.{first_units}
-use Rattle.treasury_reports.specs.Layout.{transit_piece}
+use Rattle.treasury_reports.specs.TransitReport.{transit_row}
+use Rattle.treasury_reports.specs.Written.{rows_in}
 use Rattle.treasury_reports.proofs.transit.push_way.Given as goal
 
 abbrev pub invariant-units : goal.invariant-units
@@ -9,8 +10,8 @@ invariant-units g l = record {
   same : l.styles ≡ l.state.styles;
   few : length l.styles ≤ 16;
   declared : l.number ≤ length l.styles;
-  lines : l.text.items
-      ≡ l.fn.text.items ++ flat_map (transit_piece l.layout l.state l.day l.from l.to) (first_units l.number);
+  rows : l.rows.items ≡ l.fn.rows.items
+      ++ flat_map (λ unit. rows_in l.layout (transit_row l.state l.day l.from l.to unit)) (first_units l.number);
 }
 
 abbrev pub decreases-units : goal.decreases-units
