@@ -13,14 +13,14 @@ use Rattle.treasury_requests.specs.Words.{is_word_named, all_words}
 use Rattle.serde_json.specs.Read.{read}
 use Rattle.serde_json.specs.View.{members_view}
 use Rattle.serde_json.specs.declared.value.Value.{Value}
-use Rattle.treasury_requests.specs.RequestFault.{names_in, is_other_key, is_other_string}
+use Rattle.treasury_requests.specs.Keys.{names_in, is_other_key, is_other_string}
 use Rattle.treasury_requests.specs.RequestFault.{value_fault, do_fault, word_fault, IsFirstRequestFault}
 use Rattle.treasury_requests.specs.Request.{spelled, request_of}
 use Rattle.treasury_requests.specs.declared.request.Spelled.{Spelled}
 use Rattle.treasury_requests.specs.declared.fault.RequestFault.{RequestFault}
 use Rattle.treasury_requests.specs.declared.fault.RequestFault.TheVariants as by
 use Rattle.treasury_requests.proofs.RequestLemmas.{spelled-utf8, spelled-no_utf8}
-use Rattle.treasury_requests.specs.declared.fault.words.Word.{Word}
+use Rattle.treasury_requests.specs.declared.words.Word.{Word}
 
 first_of : (b : Bool) (k : String Global) (found : Option (List ℕ)) (rest : Option (String Global))
     → found ≡ option_map string_bytes rest

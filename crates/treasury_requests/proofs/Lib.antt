@@ -1,4 +1,7 @@
 pub mod RequestLemmas
+pub mod TableLemmas
+pub mod DayLemmas
+pub mod RequiredLemmas
 pub mod WorkedReports
 pub mod WorkedDryRuns
 pub mod FaultLemmas

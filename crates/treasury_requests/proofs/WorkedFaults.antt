@@ -4,8 +4,8 @@ use Rattle.serde_json.proofs.OnLiterals.{serde_json_on_literals}
 use Rattle.serde_json.specs.Read.{read}
 use Rattle.journal_lines.specs.DateReading.{date_of}
 use Rattle.journal_lines.specs.Number.{entry_count}
-use Rattle.treasury_requests.specs.declared.fault.words.Word.TheVariants as word
-use Rattle.treasury_requests.specs.declared.fault.words.Key.TheVariants as key
+use Rattle.treasury_requests.specs.declared.words.Word.TheVariants as word
+use Rattle.treasury_requests.specs.declared.words.Key.TheVariants as key
 use Rattle.treasury_requests.specs.declared.fault.Kind.TheVariants as kind
 use Rattle.treasury_requests.specs.declared.fault.RequestFault.{RequestFault}
 use Rattle.treasury_requests.specs.declared.fault.RequestFault.TheVariants as by

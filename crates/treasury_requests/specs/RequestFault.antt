@@ -1,25 +1,23 @@
 -- Why bytes are no request: the first of these faults (own rule; docs/FORMATS.md, "Requests").
-use Rattle.std.specs.Prelude.{◌≡◌, ℕ, ◌+◌, Bool, true, false, not, ◌||◌, if◌then◌else◌, List, [], ◌∷◌, ◌++◌}
+use Rattle.std.specs.Prelude.{◌≡◌, ℕ, ◌+◌, Bool, true, false, if◌then◌else◌, List}
 use Rattle.std.specs.Prelude.{Option, Some, None, is_some, option_map, option_and_then}
-use Rattle.std.specs.Prelude.{String, string_bytes}
-use Rattle.std.specs.declared.alloc.Global.{Global}
-use Rattle.std.specs.List.{find, list_any}
+use Rattle.std.specs.List.{find}
 use Rattle.std.specs.Option.{option_or, unwrap_or, IsSome}
-use Rattle.std.specs.Str.{bytes_eq, IsUtf8, IsValidUpTo}
-use Rattle.serde_json.specs.Data.{Data, null, boolean, number, string, array, object, Members, no_members, member}
-use Rattle.serde_json.specs.Find.{get}
+use Rattle.std.specs.Str.{IsUtf8, IsValidUpTo}
+use Rattle.serde_json.specs.Data.{Data, null, boolean, number, string, array, object}
 use Rattle.serde_json.specs.Read.{read}
 use Rattle.journal_lines.specs.DateReading.{date_of}
 use Rattle.journal_lines.specs.Number.{entry_count}
-use Rattle.treasury_requests.specs.declared.fault.words.Word.{Word}
-use Rattle.treasury_requests.specs.declared.fault.words.Word.TheVariants as word
-use Rattle.treasury_requests.specs.declared.fault.words.Key.{Key}
-use Rattle.treasury_requests.specs.declared.fault.words.Key.TheVariants as key
+use Rattle.treasury_requests.specs.declared.words.Word.{Word}
+use Rattle.treasury_requests.specs.declared.words.Word.TheVariants as word
+use Rattle.treasury_requests.specs.declared.words.Key.{Key}
+use Rattle.treasury_requests.specs.declared.words.Key.TheVariants as key
 use Rattle.treasury_requests.specs.declared.fault.Kind.{Kind}
 use Rattle.treasury_requests.specs.declared.fault.Kind.TheVariants as kind
 use Rattle.treasury_requests.specs.declared.fault.RequestFault.{RequestFault}
 use Rattle.treasury_requests.specs.declared.fault.RequestFault.TheVariants as by
-use Rattle.treasury_requests.specs.Request.{text_at, yes_or_no, spelled}
+use Rattle.treasury_requests.specs.Keys.{text_at, value_at, has_member, lacks_key, is_odd, may_have, other_key}
+use Rattle.treasury_requests.specs.Request.{yes_or_no, spelled}
 use Rattle.treasury_requests.specs.Words.{key_name, all_words, is_word_named, needed, further}
 
 -- what a value is
@@ -40,59 +38,9 @@ odd_kind (string s) = None
 odd_kind (array ds) = Some kind.Array
 odd_kind (object ms) = Some kind.Object
 
--- the value at a key
-abbrev pub value_at : Data → Key → Option Data
-value_at d k = get (key_name k) d
-
--- there is a value at the key
-abbrev pub has_member : Data → Key → Bool
-has_member d k = is_some (value_at d k)
-
--- there is none
-abbrev pub lacks_key : Data → Key → Bool
-lacks_key d k = not (has_member d k)
-
 -- what the value at a key is, if it is no string
 abbrev pub odd_kind_at : Data → Key → Option Kind
 odd_kind_at d k = option_and_then odd_kind (value_at d k)
-
--- the keys beside `do` that the request of a word may have
-abbrev pub keys_of : Word → List Key
-keys_of w = needed w ++ further w
-
--- a key is written so
-abbrev pub is_key_named : List ℕ → Key → Bool
-is_key_named name k = bytes_eq (key_name k) name
-
--- the request of a word may have a key that is written so
-abbrev pub may_have : Word → List ℕ → Bool
-may_have w name = is_key_named name key.Do || list_any (is_key_named name) (keys_of w)
-
--- the request of a word may not have a key that is written so
-abbrev pub is_other_key : Word → List ℕ → Bool
-is_other_key w name = not (may_have w name)
-
--- the same of a string
-abbrev pub is_other_string : Word → String Global → Bool
-is_other_string w name = is_other_key w (string_bytes name)
-
--- the keys of an object, in byte order
-abbrev pub names_in : Members → List (List ℕ)
-names_in no_members = []
-names_in (member name d ms) = name ∷ names_in ms
-
--- the keys of a value; none if it is no object
-abbrev pub member_names : Data → List (List ℕ)
-member_names null = []
-member_names (boolean b) = []
-member_names (number n) = []
-member_names (string s) = []
-member_names (array ds) = []
-member_names (object ms) = names_in ms
-
--- the first key that it may not have
-abbrev pub other_key : Word → Data → Option (List ℕ)
-other_key w d = find (is_other_key w) (member_names d)
 
 -- a key is missing that it has to have
 abbrev pub missing_fault : Word → Data → Option RequestFault
@@ -101,10 +49,6 @@ missing_fault w d = option_map (λ k. by.MissingKey w k (other_key w d)) (find (
 -- the value of one of its keys is no string
 abbrev pub odd_fault_at : Data → Key → Option RequestFault
 odd_fault_at d k = option_map (by.ValueOfKind k) (odd_kind_at d k)
-
--- the value at the key is no string
-abbrev pub is_odd : Data → Key → Bool
-is_odd d k = is_some (odd_kind_at d k)
 
 -- the first of these keys whose value is no string
 abbrev pub odd_fault_in : Data → List Key → Option RequestFault

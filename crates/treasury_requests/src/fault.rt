@@ -1,26 +1,22 @@
 //! Why a text is no request: the first fault, by docs/FORMATS.md, "Requests".
 
-mod words;
-
 ghost use Rattle.std.specs.Prelude.{◌≡◌, IfOk, find, option_copied, option_map};
-ghost use Rattle.std.specs.List.{list_any};
-ghost use Rattle.std.specs.Map.{keys_of};
 ghost use Rattle.std.specs.Result.{IsOkUnless};
-ghost use Rattle.serde_json.specs.View.{view, members_view};
+ghost use Rattle.serde_json.specs.View.{view};
 ghost use Rattle.treasury_requests.specs.Words.{all_words, is_word_named};
-ghost use Rattle.treasury_requests.specs.RequestFault.{kind_of_data, odd_kind_at, has_member, lacks_key, is_odd};
-ghost use Rattle.treasury_requests.specs.RequestFault.{may_have, is_key_named, is_other_string};
-ghost use Rattle.treasury_requests.specs.RequestFault.{is_other_key, names_in, other_key, missing_fault};
-ghost use Rattle.treasury_requests.specs.RequestFault.{odd_fault_in, odd_fault, date_fault, half_fault, choice_fault};
-ghost use Rattle.treasury_requests.specs.RequestFault.{own_text_at, count_fault};
-ghost use Rattle.treasury_requests.specs.RequestFault.{keys_fault, word_fault, value_fault, IsFirstRequestFault};
+ghost use Rattle.treasury_requests.specs.Keys.{lacks_key, is_odd};
+ghost use Rattle.treasury_requests.specs.RequestFault.{kind_of_data, odd_kind_at, missing_fault, odd_fault_in};
+ghost use Rattle.treasury_requests.specs.RequestFault.{odd_fault, date_fault, half_fault, choice_fault, own_text_at};
+ghost use Rattle.treasury_requests.specs.RequestFault.{count_fault, keys_fault, word_fault, value_fault};
+ghost use Rattle.treasury_requests.specs.RequestFault.{IsFirstRequestFault};
 
-use crate::request::{form_of, owned_text, text_at, yes_or_no};
+use crate::keys::{has_key, is_odd, may_have, other_key, text_at};
+use crate::reading::{spelled_in, yes_or_no};
+use crate::words::{Key, Word, word_named};
 use journal_lines::{read_count, read_date};
 use money_core::{Cause, Text};
-use serde_json::{Map, Value};
+use serde_json::Value;
 use std::alloc::Global;
-pub use words::{Key, Word, all_words, word_of};
 
 /// What a JSON value is.
 #[derive(Clone, Copy, Debug, Drop)]
@@ -112,13 +108,6 @@ fn kind_of(value: &Value) -> Kind
     }
 }
 
-/// Whether a value has a key.
-fn has_key(value: &Value, key: Key) -> bool
-    ensures { result ≡ has_member (view value.now) key }
-{
-    value.get(key.name()).is_some()
-}
-
 /// What the value at a key is, if it is no string.
 fn odd_kind_at(value: &Value, key: Key) -> Option<Kind>
     ensures { result ≡ odd_kind_at (view value.now) key }
@@ -130,51 +119,17 @@ fn odd_kind_at(value: &Value, key: Key) -> Option<Kind>
     }
 }
 
-/// Whether the request of a word may have a key that is written so.
-fn may_have(word: Word, name: &str) -> bool
-    ensures { result ≡ may_have word name.now }
+/// A text of its own, if there is one.
+fn owned_text(alloc: Global, text: Option<&str>) -> Result<Option<Text>, Cause>
+    ensures equal { IfOk result (λ owned. owned ≡ option_copied text.entry) }
+    ensures memory { IsOkUnless result Cause.OutOfMemory }
 {
-    name == "do" || is_among(word.needed(), name) || is_among(word.further(), name)
-}
-
-/// Whether one of the keys is written so.
-fn is_among(keys: &[Key], name: &str) -> bool
-    ensures { result ≡ list_any (is_key_named name.now) keys.now }
-{
-    keys.iter().any(|key| key.name() == name)
-}
-
-/// Whether the request of a word may not have a key that is written so.
-fn is_other(word: Word, name: &str) -> bool
-    ensures { result ≡ is_other_key word name.now }
-{
-    !may_have(word, name)
-}
-
-/// The first key, in byte order, that the request of a word may not have.
-fn first_other(map: &Map<String, Value>, word: Word) -> Option<&String>
-    ensures { option_copied result ≡ find (is_other_string word) (keys_of map.now.entries) }
-{
-    map.keys().find(|name| is_other(word, name.as_str()))
-}
-
-/// The same, as a text.
-fn other_name(map: &Map<String, Value>, word: Word) -> Option<&str>
-    ensures { option_map (λ s. s.now) result ≡ find (is_other_key word) (names_in (members_view map.now.entries)) }
-{
-    match first_other(map, word) {
-        Some(name) => Some(name.as_str()),
-        None => None,
-    }
-}
-
-/// The same of a value that may be no object.
-fn other_key<'a>(value: &'a Value, word: Word) -> Option<&'a str>
-    ensures { option_map (λ s. s.now) result ≡ other_key word (view value.now) }
-{
-    match value.as_object() {
-        Some(map) => other_name(map, word),
-        None => None,
+    match text {
+        Some(text) => {
+            let text = Text::of(alloc, text)?;
+            Ok(Some(text))
+        }
+        None => Ok(None),
     }
 }
 
@@ -197,20 +152,13 @@ fn missing_fault(alloc: Global, value: &Value, word: Word) -> Result<Option<Requ
     ensures value { IfOk result (λ fault. fault ≡ missing_fault word (view value.now)) }
     ensures memory { IsOkUnless result Cause.OutOfMemory }
 {
-    match first_missing(value, word.needed()) {
+    match first_missing(value, word.row().needed) {
         Some(key) => {
             let other = owned_text(alloc, other_key(value, word))?;
             Ok(Some(RequestFault::MissingKey { word, key, other }))
         }
         None => Ok(None),
     }
-}
-
-/// Whether the value at a key is no string.
-fn is_odd(value: &Value, key: Key) -> bool
-    ensures { result ≡ is_odd (view value.now) key }
-{
-    odd_kind_at(value, key).is_some()
 }
 
 /// The first of some keys at which the value is no string.
@@ -233,9 +181,9 @@ fn odd_fault_in(value: &Value, keys: &[Key]) -> Option<RequestFault>
 fn odd_fault(value: &Value, word: Word) -> Option<RequestFault>
     ensures { result ≡ odd_fault word (view value.now) }
 {
-    match odd_fault_in(value, word.needed()) {
+    match odd_fault_in(value, word.row().needed) {
         Some(fault) => Some(fault),
-        None => odd_fault_in(value, word.further()),
+        None => odd_fault_in(value, word.row().further),
     }
 }
 
@@ -356,7 +304,7 @@ fn word_fault(alloc: Global, value: &Value, text: &str) -> Result<RequestFault, 
         (λ fault. fault ≡ word_fault (view value.now) text.now (find (is_word_named text.now) all_words)) }
     ensures memory { IsOkUnless result Cause.OutOfMemory }
 {
-    match word_of(text) {
+    match word_named(text) {
         Some(word) => keys_fault(alloc, value, word),
         None => {
             let text = Text::of(alloc, text)?;
@@ -405,12 +353,13 @@ fn text_fault(alloc: Global, text: &str) -> Result<Option<RequestFault>, Cause>
             };
         }
     };
-    match form_of(&value) {
-        Some(_) => Ok(None),
-        None => {
+    match spelled_in(alloc, &value) {
+        Ok(_) => Ok(None),
+        Err(Cause::Request) => {
             let fault = value_fault(alloc, &value)?;
             Ok(Some(fault))
         }
+        Err(cause) => Err(cause),
     }
 }
 

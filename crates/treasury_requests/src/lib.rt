@@ -1,12 +1,20 @@
-//! Requests to a treasury, as they are written: their form, how a line spells one, and why a line spells none.
+//! Requests to a treasury, as they are written: the table of their words and keys, how a line, or whatever else gives
+//! their keys, spells one, and why a line spells none.
 #![tactic(auto)]
 
 mod bytes;
 mod fault;
+mod fields;
+mod given;
+mod keys;
+mod reading;
 mod request;
+mod words;
 
 pub use bytes::Bytes;
-pub use fault::{Key, Kind, RequestFault, Word, all_words, fault_of, word_of};
-pub use request::{
-    Form, PartForm, Request, Spelled, Terms, WrittenPart, read_command, read_line, request_of,
-};
+pub use fault::{Kind, RequestFault, fault_of};
+pub use fields::{Fields, lacks, request_by};
+pub use given::{Given, key_named};
+pub use reading::{read_command, read_line};
+pub use request::{Request, Spelled, Terms, WrittenPart};
+pub use words::{Key, Row, Word, WordKind, all_words, word_named};

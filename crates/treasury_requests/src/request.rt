@@ -1,17 +1,11 @@
 //! What a treasury is asked: one variant for each word of `do`.
 
-mod form;
-mod reading;
-
 ghost use Rattle.std.specs.Prelude.{◌≡◌, option_map};
-ghost use Rattle.treasury_requests.specs.Request.{is_report, branch_asked};
+ghost use Rattle.treasury_requests.specs.Request.{word_of, is_report, branch_asked};
 
 use crate::bytes::Bytes;
-pub use form::{Form, PartForm};
-pub(crate) use form::{form_of, text_at, yes_or_no};
+use crate::words::{Word, WordKind};
 use money_core::{Day, Text};
-pub(crate) use reading::owned_text;
-pub use reading::{read_command, read_line, request_of};
 
 /// A part of a transfer, with its texts as they were written.
 #[derive(Debug, Drop)]
@@ -117,6 +111,29 @@ pub struct Spelled {
 }
 
 impl Request {
+    /// Its word.
+    pub fn word(&self) -> Word
+        ensures { result ≡ word_of self.now }
+    {
+        match self {
+            Request::Branch { .. } => Word::Branch,
+            Request::Commodity { .. } => Word::Commodity,
+            Request::Import { .. } => Word::Import,
+            Request::Dispatch { .. } => Word::Dispatch,
+            Request::Receive { .. } => Word::Receive,
+            Request::Lock { .. } => Word::Lock,
+            Request::Close { .. } => Word::Close,
+            Request::Balance { .. } => Word::Balance,
+            Request::Register { .. } => Word::Register,
+            Request::Transit { .. } => Word::Transit,
+            Request::Journal { .. } => Word::Journal,
+            Request::Branches => Word::Branches,
+            Request::Commodities => Word::Commodities,
+            Request::Accounts { .. } => Word::Accounts,
+            Request::Transfers { .. } => Word::Transfers,
+        }
+    }
+
     /// The name of the branch on whose book it is a command: that which takes entries, or is locked.
     pub fn branch(&self) -> Option<&Text>
         ensures { option_map (λ name. name.now) result ≡ branch_asked self.now }
@@ -135,16 +152,6 @@ impl Request {
     pub fn is_report(&self) -> bool
         ensures { result ≡ is_report self.now }
     {
-        match self {
-            Request::Balance { .. } => true,
-            Request::Register { .. } => true,
-            Request::Transit { .. } => true,
-            Request::Journal { .. } => true,
-            Request::Branches => true,
-            Request::Commodities => true,
-            Request::Accounts { .. } => true,
-            Request::Transfers { .. } => true,
-            _ => false,
-        }
+        matches!(self.word().row().kind, WordKind::Report)
     }
 }

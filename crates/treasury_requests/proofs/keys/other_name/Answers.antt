@@ -1,6 +1,6 @@
 use Rattle.std.proofs.Common.{◌∙◌, sym, ap, Some, option_map, string_bytes}
 use Rattle.treasury_requests.proofs.FaultLemmas.{find-names_in}
-use Rattle.treasury_requests.proofs.fault.other_name.Goals as goal
+use Rattle.treasury_requests.proofs.keys.other_name.Goals as goal
 
 pub returns-in-Some : goal.returns-in-Some
 returns-in-Some c =
