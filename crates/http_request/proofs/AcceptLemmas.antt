@@ -1,17 +1,16 @@
 -- The ranges of all `Accept` are those of one after another.
-use Rattle.std.proofs.Common.{◌≡◌, ◌∙◌, ◌++◌, ◌==◌, ◌&&◌, ◌||◌, ℕ, List, [], ◌∷◌, Bool, true, false, codes, refl, ap}
+use Rattle.std.proofs.Common.{◌≡◌, ◌∙◌, ◌++◌, ◌==◌, ◌&&◌, ◌||◌, ℕ, List, [], ◌∷◌, Bool, true, false, refl, ap}
 use Rattle.std.proofs.Common.{sym}
-use Rattle.std.proofs.Common.{◌<◌, ◌≤◌, ◌+◌, if◌then◌else◌, not, length, take, drop, subst, arith, ◌≢◌}
+use Rattle.std.proofs.Common.{◌<◌, ◌+◌, if◌then◌else◌, length, take, drop, subst}
 use Rattle.std.specs.Prelude.{cond}
 use Rattle.std.specs.List.{list_any, slice_split, onto_first, join_with_byte, position_or_len, before_first}
-use Rattle.std.specs.List.{after_first}
 use Rattle.std.proofs.lemmas.List.Folds.{list_any-append}
 use Rattle.std.proofs.Math.Bool.{or-false, and-true}
 use Rattle.std.proofs.lemmas.List.Splits.{slice_split_first, slice_split_none}
 use Rattle.journal_lines.specs.Blank.{trim_start, trim_end}
 use Rattle.http_request.specs.Fields.{is_named, values_of}
-use Rattle.http_request.specs.Accept.{is_nought, is_json_type, is_json_in, is_json_range, has_json}
-use Rattle.http_request.proofs.QueryLemmas.{lacks_byte}
+use Rattle.http_request.specs.Accept.{is_json_type, is_json_in, is_json_range, has_json}
+use Rattle.http_request.proofs.PieceLemmas.{lacks_byte}
 
 -- a byte stands in the first of parts that are there
 onto_more : (b c : ℕ) (front back : List (List ℕ)) → onto_first b (onto_first c front ++ back)

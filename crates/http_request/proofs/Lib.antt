@@ -1,5 +1,6 @@
 pub mod HeadLemmas
 pub mod EndLemmas
+pub mod PieceLemmas
 pub mod RouteLemmas
 pub mod LengthLemmas
 pub mod QueryLemmas

@@ -1,8 +1,10 @@
 -- A request is read, part by part.
-use Rattle.std.proofs.Common.{◌≡◌, ◌≤◌, ◌<◌, ◌+◌, ◌-◌, ◌++◌, ℕ, List, length, take, drop, max, map, Option, Some, None}
-use Rattle.std.proofs.Common.{Result, Ok, Err, IfOk, codes, refl, ap, ◌∙◌, sym, subst, inl, inr, arith}
-use Rattle.std.proofs.Common.{Bool, true, false}
-use Rattle.std.specs.Prelude.{IfSome, MatchOption}
+use Rattle.std.proofs.Common.{◌≡◌, ◌≤◌, ◌<◌, ◌+◌, ◌++◌, ℕ, List, length, take, drop, max, map, Option, Some, None}
+use Rattle.std.proofs.Common.{codes, refl, ap, ◌∙◌, sym, subst, inl, inr, arith}
+use Rattle.std.proofs.Common.{Bool, true, false, ◌==◌, ◌&&◌, [], ◌∷◌, if◌then◌else◌}
+use Rattle.std.specs.List.{slice_split}
+use Rattle.std.specs.Str.{bytes_eq}
+use Rattle.money_core.proofs.BytesLemmas.{same_bytes}
 use Rattle.std.proofs.lemmas.Grind.{common_steps}
 use Rattle.std.proofs.lemmas.List.{length-append, drop_at}
 use Rattle.std.proofs.lemmas.List.Sums.{AllPass-from_list_all}
@@ -17,25 +19,22 @@ use Rattle.httparse.proofs.GrammarLemmas.{ReadsRequest-append}
 use Rattle.http_request.specs.Head.{IsHead}
 use Rattle.http_request.specs.Found.{HasHead, IsBad, EndsEarly}
 use Rattle.http_request.specs.Path.{path_of}
-use Rattle.http_request.specs.Routes.{Routed, commands, balance, journal, transit, branches, commodities}
-use Rattle.http_request.specs.Routes.{accounts, transfers, register, LeadsTo, HasNoRoute}
-use Rattle.http_request.specs.Query.{query_of, wish_of}
-use Rattle.http_request.specs.declared.query.Wish.{Wish}
+use Rattle.http_request.specs.Routes.{command_at, report_at, route_in, route_of}
+use Rattle.http_request.specs.Query.{query_of, with_query}
 use Rattle.http_request.specs.declared.routes.Route.{Route}
+use Rattle.http_request.specs.declared.routes.Route.TheVariants as to
+use Rattle.treasury_requests.specs.declared.words.Word.{Word}
+use Rattle.treasury_requests.specs.declared.given.Given.{Given}
 use Rattle.http_request.specs.Length.{body_length}
 use Rattle.http_request.specs.Foreign.{is_foreign}
 use Rattle.http_request.specs.Accept.{form_of}
 use Rattle.http_request.specs.declared.call.Form.{Form}
 use Rattle.http_request.specs.declared.call.Form.TheVariants as form
-use Rattle.http_request.specs.Call.{ReadsCall, IsStopped, is_foreign_head, body_length_of, wish_at, Leads, AsksIn}
+use Rattle.http_request.specs.Call.{ReadsCall, IsStopped, is_foreign_head, body_length_of, given_at, Leads, AsksIn}
 use Rattle.http_request.specs.Call.{most_read}
-use Rattle.http_request.specs.Calling.{route_view, register_by, wanted_at, Wants, CallsBy, LacksBytes}
-use Rattle.http_request.specs.declared.reading.Wanted.{Wanted}
-use Rattle.http_request.specs.declared.reading.Wanted.TheVariants as wanted
+use Rattle.http_request.specs.Calling.{report_by, CallsBy, LacksBytes}
 use Rattle.http_request.specs.declared.call.Call.{Call}
-use Rattle.http_request.specs.declared.call.Call.TheVariants.{Unreadable, Foreign, Nowhere, Balance, Journal}
-use Rattle.http_request.specs.declared.call.Call.TheVariants.{Transit, Branches, Commodities, Accounts, Transfers}
-use Rattle.http_request.specs.declared.call.Call.TheVariants.{Register}
+use Rattle.http_request.specs.declared.call.Call.TheVariants.{Unreadable, Foreign, Nowhere}
 use Rattle.http_request.proofs.LengthLemmas.{body_bound}
 
 -- ---- routes
@@ -49,32 +48,33 @@ post_token : IsToken (codes "POST")
 unfolding is_token_byte
 post_token = (omega arith, AllPass-from_list_all is_token_byte (codes "POST") refl)
 
-pub no_method : (method path : List ℕ) → (IsToken method → ⊥) → HasNoRoute method path
-no_method method path none (commands None) leads = none (subst IsToken (sym leads.0) post_token)
-no_method method path none (commands (Some branch)) leads = none (subst IsToken (sym leads.0) post_token)
-no_method method path none (balance branch date) leads = none (subst IsToken (sym leads.0) get_token)
-no_method method path none (journal branch) leads = none (subst IsToken (sym leads.0) get_token)
-no_method method path none (register branch) leads = none (subst IsToken (sym leads.0) get_token)
-no_method method path none (transit date) leads = none (subst IsToken (sym leads.0) get_token)
-no_method method path none branches leads = none (subst IsToken (sym leads.0) get_token)
-no_method method path none commodities leads = none (subst IsToken (sym leads.0) get_token)
-no_method method path none (accounts branch) leads = none (subst IsToken (sym leads.0) get_token)
-no_method method path none (transfers date) leads = none (subst IsToken (sym leads.0) get_token)
+other_text : (method name : List ℕ) → IsToken name → (IsToken method → ⊥) → bytes_eq method name ≡ false
+other_text method name token none = by_test (bytes_eq method name) refl
+  where
+    by_test : (v : Bool) → bytes_eq method name ≡ v → v ≡ false
+    by_test true e = absurd (none (subst IsToken (sym (same_bytes method name e)) token))
+    by_test false e = refl
 
--- what needs its body is a command
-pub is_command : (method target : List ℕ) (named : Option (List ℕ)) → Wants method target (wanted.Command named)
-    → LeadsTo method (path_of target) (commands named)
-is_command method target named (inl (is, none)) = absurd cc
-is_command method target named (inr (commands same, leads, is)) =
-    subst (λ (b : Option (List ℕ)). LeadsTo method (path_of target) (commands b)) (let e : same ≡ named = cc in e) leads
-is_command method target named (inr (balance branch date, leads, is)) = absurd cc
-is_command method target named (inr (journal branch, leads, is)) = absurd cc
-is_command method target named (inr (register branch, leads, is)) = absurd cc
-is_command method target named (inr (transit date, leads, is)) = absurd cc
-is_command method target named (inr (branches, leads, is)) = absurd cc
-is_command method target named (inr (commodities, leads, is)) = absurd cc
-is_command method target named (inr (accounts branch, leads, is)) = absurd cc
-is_command method target named (inr (transfers date, leads, is)) = absurd cc
+pub no_method : (method path : List ℕ) → (IsToken method → ⊥) → route_of method path ≡ None
+unfolding route_of
+no_method method path none = by_pieces (slice_split (λ b. b == 47) path)
+  where
+    by_pieces : (pieces : List (List ℕ)) → route_in method pieces ≡ None
+    by_pieces [] = refl
+    by_pieces ([] ∷ []) = refl
+    by_pieces ([] ∷ name ∷ parts) =
+        ap (λ (v : Bool). if v && bytes_eq name (codes "commands") then command_at parts
+        else if bytes_eq method (codes "GET") then report_at name parts else None)
+        (other_text method (codes "POST") post_token none)
+        ∙ ap (λ (v : Bool). if v then report_at name parts else None)
+        (other_text method (codes "GET") get_token none)
+    by_pieces ((b ∷ piece) ∷ pieces) = refl
+
+-- where an equal method and an equal target lead
+pub leads_told : (m n p q : List ℕ) (route : Option Route) → m ≡ n → p ≡ q → route ≡ route_of m (path_of p)
+    → route_of n (path_of q) ≡ route
+leads_told m n p q route same alike is =
+    sym (is ∙ (ap (λ (t : List ℕ). route_of t (path_of p)) same ∙ ap (λ (t : List ℕ). route_of n (path_of t)) alike))
 
 -- ---- heads
 
@@ -151,138 +151,77 @@ module _ (r0 r1 : Option (List ℕ)) (text : List ℕ) (headers : List HeaderSpa
         stops = h.stops;
       }
 
-  -- another, that leads to no route, or to that of a report
-  pub head_calls : is_foreign (map (header_bytes text) (take spans.headers headers)) ≡ false → (call : Call)
-      → Wants (span_bytes text spans.method) (span_bytes text spans.path) (wanted.Whole call)
-      → ReadsAs r0 r1 asked call
-  head_calls own call (inl (is, none)) = subst (ReadsAs r0 r1 asked) (let same : Nowhere ≡ call = cc in same)
-      (record {
+  module _ (own : is_foreign (map (header_bytes text) (take spans.headers headers)) ≡ false) (route : Option Route)
+      (leads : route_of (span_bytes text spans.method) (path_of (span_bytes text spans.path)) ≡ route) where
+    -- where another leads
+    leads_there : Leads text h.head h.rest route
+    leads_there = record {
+      is_head = h.is_head;
+      own = foreign_is false own;
+      leads = head_there (λ (m p : List ℕ). route_of m p ≡ route) leads;
+    }
+
+  -- one that leads nowhere, or to a report
+  pub nowhere_calls : is_foreign (map (header_bytes text) (take spans.headers headers)) ≡ false
+      → route_of (span_bytes text spans.method) (path_of (span_bytes text spans.path)) ≡ None
+      → ReadsAs r0 r1 asked Nowhere
+  nowhere_calls own leads =
+      record {
         seen = text;
         read = h.read;
         bounded = (let b = h.bounded in omega arith);
-        calls = (h.head, h.rest, h.is_head, foreign_is false own, head_there HasNoRoute none);
+        calls = (h.head, h.rest, leads_there own None leads);
         asks = asks_here;
         stops = h.stops;
-      })
-  head_calls own call (inr (route, leads, is)) = by_route route leads is
-    where
-      leading : (route : Routed) → LeadsTo (span_bytes text spans.method) (path_of (span_bytes text spans.path)) route
-          → Leads text h.head h.rest route
-      leading route leads = record {
-        is_head = h.is_head;
-        own = foreign_is false own;
-        leads = head_there (λ (m p : List ℕ). LeadsTo m p route) leads;
       }
 
-      by_route : (route : Routed) → LeadsTo (span_bytes text spans.method) (path_of (span_bytes text spans.path)) route
-          → wanted.Whole call ≡ wanted_at (query_of (span_bytes text spans.path)) route → ReadsAs r0 r1 asked call
-      by_route (commands named) leads is = absurd cc
-      by_route (balance branch date) leads is = subst (ReadsAs r0 r1 asked)
-          (let same : Balance branch date ≡ call = cc in same)
-          (record {
-            seen = text;
-            read = h.read;
-            bounded = (let b = h.bounded in omega arith);
-            calls = (h.head, h.rest, leading (balance branch date) leads);
-            asks = asks_here;
-            stops = h.stops;
-          })
-      by_route (journal branch) leads is = subst (ReadsAs r0 r1 asked) (let same : Journal branch ≡ call = cc in same)
-          (record {
-            seen = text;
-            read = h.read;
-            bounded = (let b = h.bounded in omega arith);
-            calls = (h.head, h.rest, leading (journal branch) leads);
-            asks = asks_here;
-            stops = h.stops;
-          })
-      by_route (register branch) leads is = by_wish (wish_of (query_of (span_bytes text spans.path))) refl is
-        where
-          wished : wish_of (query_of (span_bytes text spans.path)) ≡ wish_at h.head
-          wished = ap (λ (t : List ℕ). wish_of (query_of t)) h.at.path
+  pub report_calls : is_foreign (map (header_bytes text) (take spans.headers headers)) ≡ false → (w : Word)
+      (path : List Given)
+      → route_of (span_bytes text spans.method) (path_of (span_bytes text spans.path)) ≡ Some (to.Report w path)
+      → (call : Call) → call ≡ report_by w (with_query w path (query_of (span_bytes text spans.path)))
+      → ReadsAs r0 r1 asked call
+  report_calls own w path leads call is =
+      subst (ReadsAs r0 r1 asked) (sym is) (by_given (with_query w path (query_of (span_bytes text spans.path))) refl)
+    where
+      given_is : (o : Option (List Given)) → with_query w path (query_of (span_bytes text spans.path)) ≡ o
+          → given_at h.head w path ≡ o
+      given_is o e = sym (ap (λ (t : List ℕ). with_query w path (query_of t)) h.at.path) ∙ e
 
-          by_wish : (wish : Option Wish) → wish_of (query_of (span_bytes text spans.path)) ≡ wish
-              → wanted.Whole call ≡ wanted.Whole (register_by branch wish) → ReadsAs r0 r1 asked call
-          by_wish None none is = subst (ReadsAs r0 r1 asked) (let same : Unreadable ≡ call = cc in same)
-              (record {
-                seen = text;
-                read = h.read;
-                bounded = (let b = h.bounded in omega arith);
-                calls = inr (inr (h.head, h.rest, branch, leading (register branch) leads, sym wished ∙ none));
-                asks = asks_here;
-                stops = h.stops;
-              })
-          by_wish (Some wish) said is =
-              subst (ReadsAs r0 r1 asked) (let same : Register branch wish.account wish.tag ≡ call = cc in same)
-              (record {
-                seen = text;
-                read = h.read;
-                bounded = (let b = h.bounded in omega arith);
-                calls = (h.head, h.rest, leading (register branch) leads, sym wished ∙ said);
-                asks = asks_here;
-                stops = h.stops;
-              })
-      by_route (transit date) leads is = subst (ReadsAs r0 r1 asked) (let same : Transit date ≡ call = cc in same)
-          (record {
-            seen = text;
-            read = h.read;
-            bounded = (let b = h.bounded in omega arith);
-            calls = (h.head, h.rest, leading (transit date) leads);
-            asks = asks_here;
-            stops = h.stops;
-          })
-      by_route branches leads is = subst (ReadsAs r0 r1 asked) (let same : Branches ≡ call = cc in same)
-          (record {
-            seen = text;
-            read = h.read;
-            bounded = (let b = h.bounded in omega arith);
-            calls = (h.head, h.rest, leading branches leads);
-            asks = asks_here;
-            stops = h.stops;
-          })
-      by_route commodities leads is = subst (ReadsAs r0 r1 asked) (let same : Commodities ≡ call = cc in same)
-          (record {
-            seen = text;
-            read = h.read;
-            bounded = (let b = h.bounded in omega arith);
-            calls = (h.head, h.rest, leading commodities leads);
-            asks = asks_here;
-            stops = h.stops;
-          })
-      by_route (accounts branch) leads is = subst (ReadsAs r0 r1 asked) (let same : Accounts branch ≡ call = cc in same)
-          (record {
-            seen = text;
-            read = h.read;
-            bounded = (let b = h.bounded in omega arith);
-            calls = (h.head, h.rest, leading (accounts branch) leads);
-            asks = asks_here;
-            stops = h.stops;
-          })
-      by_route (transfers date) leads is = subst (ReadsAs r0 r1 asked) (let same : Transfers date ≡ call = cc in same)
-          (record {
-            seen = text;
-            read = h.read;
-            bounded = (let b = h.bounded in omega arith);
-            calls = (h.head, h.rest, leading (transfers date) leads);
-            asks = asks_here;
-            stops = h.stops;
-          })
+      by_given : (o : Option (List Given)) → with_query w path (query_of (span_bytes text spans.path)) ≡ o
+          → ReadsAs r0 r1 asked (report_by w o)
+      by_given None e = record {
+        seen = text;
+        read = h.read;
+        bounded = (let b = h.bounded in omega arith);
+        calls = inr (inr (h.head, h.rest, w, path, leads_there own (Some (to.Report w path)) leads, given_is None e));
+        asks = asks_here;
+        stops = h.stops;
+      }
+      by_given (Some given) e = record {
+        seen = text;
+        read = h.read;
+        bounded = (let b = h.bounded in omega arith);
+        calls = (h.head, h.rest, path, leads_there own (Some (to.Report w path)) leads, given_is (Some given) e);
+        asks = asks_here;
+        stops = h.stops;
+      }
 
   module _ (r2 branch : Option (List ℕ))
       (own : is_foreign (map (header_bytes text) (take spans.headers headers)) ≡ false)
-      (leads : LeadsTo (span_bytes text spans.method) (path_of (span_bytes text spans.path)) (commands branch)) where
-    leads_there : LeadsTo h.head.method (path_of h.head.target) (commands branch)
-    leads_there = head_there (λ (m p : List ℕ). LeadsTo m p (commands branch)) leads
+      (leads : route_of (span_bytes text spans.method) (path_of (span_bytes text spans.path))
+      ≡ Some (to.Commands branch)) where
+    leads_here : Leads text h.head h.rest (Some (to.Commands branch))
+    leads_here = leads_there own (Some (to.Commands branch)) leads
 
     size_is : (o : Option ℕ) → body_length (map (header_bytes text) (take spans.headers headers)) ≡ o
         → body_length_of h.head ≡ o
     size_is o e = sym (ap body_length h.at.fields) ∙ e
 
-    still : (more : List ℕ) → Leads (text ++ more) h.head (h.rest ++ more) (commands branch)
+    still : (more : List ℕ) → Leads (text ++ more) h.head (h.rest ++ more) (Some (to.Commands branch))
     still more = record {
       is_head = head_more text h.head h.rest more h.is_head;
       own = foreign_is false own;
-      leads = leads_there;
+      leads = leads_here.leads;
     }
 
     rest_is : drop spans.len text ≡ h.rest
@@ -310,7 +249,7 @@ module _ (r0 r1 : Option (List ℕ)) (text : List ℕ) (headers : List HeaderSpa
         h.head,
         h.rest,
         branch,
-        record { is_head = h.is_head; own = foreign_is false own; leads = leads_there },
+        leads_here,
         size_is None size,
       ));
       asks = asks_here;
@@ -364,26 +303,3 @@ module _ (r0 r1 : Option (List ℕ)) (text : List ℕ) (headers : List HeaderSpa
         → LacksBytes o r1 r2 begun → IsStopped r0 r2
     stop_told o begun size rest lacks =
         command_stops o (sym size) (subst (λ (t : List ℕ). LacksBytes o r1 r2 t) rest lacks)
-
--- what was found by an equal method
-pub route_told : (found : Option Route) (m n path : List ℕ) → n ≡ m
-    → IfSome found (λ route. LeadsTo n path (route_view route)) → (found ≡ None → HasNoRoute n path)
-    → MatchOption found (HasNoRoute m path) (λ route. LeadsTo m path (route_view route))
-route_told (Some route) m n path same leads none = subst (λ (t : List ℕ). LeadsTo t path (route_view route)) same leads
-route_told None m n path same leads none = subst (λ (t : List ℕ). HasNoRoute t path) same (none refl)
-
--- what a method and an equal target call for
-pub wanted_told : (found : Wanted) (m n p q : List ℕ) → m ≡ n → p ≡ q → Wants m p found → Wants n q found
-wanted_told found m n p q same alike wants =
-    subst (λ (t : List ℕ). Wants n t found) alike (subst (λ (t : List ℕ). Wants t p found) same wants)
-
--- what a route calls for, and what nothing does
-pub wants_told : {E : Type 0} (result : Result Wanted E) (m target query : List ℕ) (route : Route)
-    → LeadsTo m (path_of target) (route_view route) → query ≡ query_of target
-    → IfOk result (λ found. found ≡ wanted_at query (route_view route)) → IfOk result (Wants m target)
-wants_told (Ok found) m target query route leads same is =
-    inr (route_view route, leads, is ∙ ap (λ (q : List ℕ). wanted_at q (route_view route)) same)
-wants_told (Err e) m target query route leads same is = tt
-
-pub wants_nowhere : (m target : List ℕ) → HasNoRoute m (path_of target) → Wants m target (wanted.Whole Nowhere)
-wants_nowhere m target none = inl (refl, none)

@@ -4,9 +4,13 @@ use Rattle.std.specs.Str.{is_utf8, chars}
 use lib.Utf8.{encode}
 use Rattle.percent_encoding.specs.Percent.{percent_decode}
 use Rattle.http_request.specs.Path.{path_of}
-use Rattle.http_request.specs.Routes.{LeadsTo, commands, balance, branches, transfers, is_path_part}
-use Rattle.http_request.specs.Query.{query_of, decoded, wish_of}
-use Rattle.http_request.specs.declared.query.Wish.{Wish}
+use Rattle.treasury_requests.specs.declared.words.Word.TheVariants as word
+use Rattle.treasury_requests.specs.declared.words.Key.TheVariants as key
+use Rattle.treasury_requests.specs.declared.given.Given.{Given}
+use Rattle.http_request.specs.declared.routes.Route.{Route}
+use Rattle.http_request.specs.declared.routes.Route.TheVariants.{Commands, Report}
+use Rattle.http_request.specs.Routes.{at_key, route_of}
+use Rattle.http_request.specs.Query.{query_of, decoded, with_query}
 use Rattle.http_request.specs.Length.{body_length}
 use Rattle.http_request.specs.Foreign.{is_loopback, is_origin_of, is_foreign}
 
@@ -15,24 +19,36 @@ pub query : (path_of (codes "/balance/north/2024-01-31?x=/y") ≡ codes "/balanc
     × (path_of (codes "/commands") ≡ codes "/commands")
 query = (refl, refl)
 
--- parts stand as they are, and hold no slash
-pub parts : LeadsTo (codes "GET") (codes "/balance/%6eorth/2024.1.5") (balance (codes "%6eorth") (codes "2024.1.5"))
-    × (is_path_part (codes "2024/01/05") ≡ false) × (is_path_part [] ≡ false)
-parts = ((refl, refl, refl, refl), refl, refl)
+abbrev get : List ℕ → Option Route
+get path = route_of (codes "GET") path
 
--- reports on all branches
-pub lists : LeadsTo (codes "GET") (codes "/branches") branches
-    × LeadsTo (codes "GET") (codes "/transfers/9999-12-31") (transfers (codes "9999-12-31"))
-lists = ((refl, refl), (refl, refl, refl))
+abbrev post : List ℕ → Option Route
+post path = route_of (codes "POST") path
 
-pub posted : LeadsTo (codes "POST") (codes "/commands") (commands None)
-posted = (refl, refl)
+-- parts stand as they are, hold no slash, and are not empty
+pub parts : (get (codes "/balance/%6eorth/2024.1.5")
+    ≡ Some (Report word.Balance (at_key key.Branch (codes "%6eorth") ∷ at_key key.Day (codes "2024.1.5") ∷ [])))
+    × (get (codes "/balance/north/2024/01") ≡ None) × (get (codes "/balance/north") ≡ None)
+    × (get (codes "/balance//2024-01-05") ≡ None) × (get (codes "/balance/north/") ≡ None)
+unfolding route_of
+parts = (refl, refl, refl, refl, refl)
 
--- commands of a branch, also of one that is named as a route is, or holds an escape
-pub posted_of : LeadsTo (codes "POST") (codes "/commands/north") (commands (Some (codes "north")))
-    × LeadsTo (codes "POST") (codes "/commands/commands") (commands (Some (codes "commands")))
-    × LeadsTo (codes "POST") (codes "/commands/%6eorth") (commands (Some (codes "%6eorth")))
-posted_of = ((refl, refl, refl), (refl, refl, refl), (refl, refl, refl))
+-- reports on all branches; a command has no path of its own
+pub lists : (get (codes "/branches") ≡ Some (Report word.Branches [])) × (get (codes "/branches/") ≡ None)
+    × (get (codes "/transfers/9999-12-31") ≡ Some (Report word.Transfers (at_key key.Day (codes "9999-12-31") ∷ [])))
+    × (get (codes "/lock") ≡ None) × (get (codes "branches") ≡ None) × (get [] ≡ None)
+    × (route_of (codes "HEAD") (codes "/branches") ≡ None)
+unfolding route_of
+lists = (refl, refl, refl, refl, refl, refl, refl)
+
+-- commands, and those of a branch, also of one that is named as a route is, or holds an escape
+pub posted : (post (codes "/commands") ≡ Some (Commands None)) × (get (codes "/commands") ≡ None)
+    × (post (codes "/commands/north") ≡ Some (Commands (Some (codes "north"))))
+    × (post (codes "/commands/commands") ≡ Some (Commands (Some (codes "commands"))))
+    × (post (codes "/commands/%6eorth") ≡ Some (Commands (Some (codes "%6eorth"))))
+    × (post (codes "/commands/north/") ≡ None) × (post (codes "/branches") ≡ None)
+unfolding route_of
+posted = (refl, refl, refl, refl, refl, refl, refl)
 
 -- one length, of digits, within 8 MiB, whatever case its name has
 pub one_length : (body_length ((codes "Host", codes "localhost") ∷ (codes "content-LENGTH", codes "007") ∷ []) ≡ Some 7)
@@ -123,25 +139,36 @@ pub borders : (decoded (codes "%C3%A9") ≡ Some (195 ∷ 169 ∷ [])) × (decod
 unfolding percent_decode is_utf8 chars encode
 borders = (refl, refl, refl, refl, refl, refl, refl)
 
-abbrev wish : List ℕ → Option (List ℕ) → Option Wish
-wish account tag = Some (record { account = account; tag = tag })
+-- what the register of a branch is asked of
+abbrev register : List ℕ → Option (List Given)
+register query = with_query word.Register (at_key key.Branch (codes "north") ∷ []) query
+
+abbrev with : List Given → Option (List Given)
+with more = Some (at_key key.Branch (codes "north") ∷ more)
 
 -- an account, alone or with a tag, in either order; their keys may have escapes, and their values `=`
-pub wishes : (wish_of (codes "account=assets%3Abank") ≡ wish (codes "assets:bank") None)
-    × (wish_of (codes "account=a&tag=b") ≡ wish (codes "a") (Some (codes "b")))
-    × (wish_of (codes "tag=b&account=a") ≡ wish (codes "a") (Some (codes "b")))
-    × (wish_of (codes "%61ccount=a") ≡ wish (codes "a") None)
-    × (wish_of (codes "account=a=b") ≡ wish (codes "a=b") None)
-    × (wish_of (codes "account=a%26tag%3Db") ≡ wish (codes "a&tag=b") None)
-    × (wish_of (codes "account=&tag=") ≡ wish [] (Some []))
-unfolding percent_decode is_utf8 chars encode
-wishes = (refl, refl, refl, refl, refl, refl, refl)
+pub given : (register (codes "account=assets%3Abank") ≡ with (at_key key.Account (codes "assets:bank") ∷ []))
+    × (register (codes "account=a&tag=b") ≡ with (at_key key.Account (codes "a") ∷ at_key key.Tag (codes "b") ∷ []))
+    × (register (codes "tag=b&account=a") ≡ with (at_key key.Tag (codes "b") ∷ at_key key.Account (codes "a") ∷ []))
+    × (register (codes "%61ccount=a") ≡ with (at_key key.Account (codes "a") ∷ []))
+    × (register (codes "account=a=b") ≡ with (at_key key.Account (codes "a=b") ∷ []))
+    × (register (codes "account=a%26tag%3Db") ≡ with (at_key key.Account (codes "a&tag=b") ∷ []))
+    × (register (codes "account=&tag=") ≡ with (at_key key.Account [] ∷ at_key key.Tag [] ∷ []))
+unfolding percent_decode is_utf8 chars encode with_query
+given = (refl, refl, refl, refl, refl, refl, refl)
 
--- no account, a key that is unknown, in other letters, or there twice, and a piece without `=`
-pub no_wishes : (wish_of [] ≡ None) × (wish_of (codes "tag=b") ≡ None) × (wish_of (codes "account") ≡ None)
-    × (wish_of (codes "account=a&day=b") ≡ None) × (wish_of (codes "Account=a") ≡ None)
-    × (wish_of (codes "account=a&account=a") ≡ None) × (wish_of (codes "account=a&tag=b&tag=b") ≡ None)
-    × (wish_of (codes "account=a&") ≡ None) × (wish_of (codes "account=a&tag") ≡ None)
-    × (wish_of (codes "account=%") ≡ None) × (wish_of (codes "account=a;tag=b&tag=%C3") ≡ None)
-unfolding percent_decode is_utf8 chars encode
-no_wishes = (refl, refl, refl, refl, refl, refl, refl, refl, refl, refl, refl)
+-- no account, a key that is unknown, in other letters, there twice, or in the path, and a piece without `=`
+pub not_given : (register [] ≡ None) × (register (codes "tag=b") ≡ None) × (register (codes "account") ≡ None)
+    × (register (codes "account=a&day=b") ≡ None) × (register (codes "Account=a") ≡ None)
+    × (register (codes "account=a&account=a") ≡ None) × (register (codes "account=a&tag=b&tag=b") ≡ None)
+    × (register (codes "account=a&branch=south") ≡ None) × (register (codes "account=a&do=register") ≡ None)
+    × (register (codes "account=a&") ≡ None) × (register (codes "account=a&tag") ≡ None)
+    × (register (codes "account=%") ≡ None) × (register (codes "account=a;tag=b&tag=%C3") ≡ None)
+unfolding percent_decode is_utf8 chars encode with_query
+not_given = (refl, refl, refl, refl, refl, refl, refl, refl, refl, refl, refl, refl, refl)
+
+-- the query of a path that gives all keys is not looked at
+pub unread : (with_query word.Journal (at_key key.Branch (codes "north") ∷ []) (codes "tag=%")
+    ≡ Some (at_key key.Branch (codes "north") ∷ [])) × (with_query word.Branches [] (codes "account=a") ≡ Some [])
+unfolding with_query
+unread = (refl, refl)

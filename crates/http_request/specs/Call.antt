@@ -7,10 +7,12 @@ use Rattle.httparse.specs.Spans.{name_and_value}
 use Rattle.http_request.specs.Head.{IsHead, NeverHead, CanEnd}
 use Rattle.http_request.specs.Spaces.{spaces}
 use Rattle.http_request.specs.Path.{path_of}
-use Rattle.http_request.specs.Routes.{Routed, commands, balance, journal, transit, branches, commodities}
-use Rattle.http_request.specs.Routes.{accounts, transfers, register, LeadsTo, HasNoRoute}
-use Rattle.http_request.specs.Query.{query_of, wish_of}
-use Rattle.http_request.specs.declared.query.Wish.{Wish}
+use Rattle.http_request.specs.Routes.{route_of}
+use Rattle.http_request.specs.Query.{query_of, with_query}
+use Rattle.http_request.specs.declared.routes.Route.{Route}
+use Rattle.http_request.specs.declared.routes.Route.TheVariants as to
+use Rattle.treasury_requests.specs.declared.words.Word.{Word}
+use Rattle.treasury_requests.specs.declared.given.Given.{Given}
 use Rattle.http_request.specs.Length.{body_length}
 use Rattle.http_request.specs.Foreign.{is_foreign}
 use Rattle.http_request.specs.Accept.{form_of}
@@ -18,9 +20,7 @@ use Rattle.http_request.specs.declared.call.Form.{Form}
 use Rattle.http_request.specs.declared.call.Form.TheVariants as form
 use Rattle.http_request.specs.declared.call.Received.{Received}
 use Rattle.http_request.specs.declared.call.Call.{Call}
-use Rattle.http_request.specs.declared.call.Call.TheVariants.{Unreadable, Foreign, Nowhere, Command, Balance, Journal}
-use Rattle.http_request.specs.declared.call.Call.TheVariants.{Transit, Branches, Commodities, Accounts, Transfers}
-use Rattle.http_request.specs.declared.call.Call.TheVariants.{Register}
+use Rattle.http_request.specs.declared.call.Call.TheVariants.{Unreadable, Foreign, Nowhere, Command, Report}
 
 -- how long the body of a command is
 abbrev pub body_length_of : RequestHead → Option ℕ
@@ -30,48 +30,35 @@ body_length_of head = body_length (map name_and_value head.fields)
 abbrev pub is_foreign_head : RequestHead → Bool
 is_foreign_head head = is_foreign (map name_and_value head.fields)
 
--- the bytes begin with a head within the limits, which is not foreign and leads to this route
-pub record Leads (seen : List ℕ) (head : RequestHead) (rest : List ℕ) (route : Routed) : Type 0 where
+-- the bytes begin with a head within the limits, which is not foreign and leads there
+pub record Leads (seen : List ℕ) (head : RequestHead) (rest : List ℕ) (route : Option Route) : Type 0 where
   pub is_head : IsHead seen head rest
   pub own : is_foreign_head head ≡ false
-  pub leads : LeadsTo head.method (path_of head.target) route
+  pub leads : route_of head.method (path_of head.target) ≡ route
 
--- the bytes begin with some such head that leads to this route
-abbrev pub LeadTo : List ℕ → Routed → Type 0
-LeadTo seen route = (head : RequestHead) × (rest : List ℕ) × Leads seen head rest route
-
--- what the query of a target asks a register of
-abbrev pub wish_at : RequestHead → Option Wish
-wish_at head = wish_of (query_of head.target)
+-- what is given of a report, by its path and its query
+abbrev pub given_at : RequestHead → Word → List Given → Option (List Given)
+given_at head w path = with_query w path (query_of head.target)
 
 -- What the bytes call for. Nothing where they begin no head, where the length of a command's body is not stated as it
--- has to be, or where a register is not asked of what its query has to say. A head that is foreign calls for nothing
+-- has to be, or where the query for a report does not give what it has to. A head that is foreign calls for nothing
 -- else, whatever it asks for. A command has its whole body, and what stands after it is not looked at.
 abbrev pub Calls : List ℕ → Call → Type 0
 Calls seen Unreadable =
     NeverHead seen
-    ⊎ ((head : RequestHead) × (rest : List ℕ) × (branch : Option (List ℕ)) × Leads seen head rest (commands branch)
-    × (body_length_of head ≡ None))
-    ⊎ ((head : RequestHead) × (rest : List ℕ) × (branch : List ℕ) × Leads seen head rest (register branch)
-    × (wish_at head ≡ None))
+    ⊎ ((head : RequestHead) × (rest : List ℕ) × (branch : Option (List ℕ))
+    × Leads seen head rest (Some (to.Commands branch)) × (body_length_of head ≡ None))
+    ⊎ ((head : RequestHead) × (rest : List ℕ) × (w : Word) × (path : List Given)
+    × Leads seen head rest (Some (to.Report w path)) × (given_at head w path ≡ None))
 Calls seen Foreign = (head : RequestHead) × (rest : List ℕ) × IsHead seen head rest × (is_foreign_head head ≡ true)
-Calls seen Nowhere =
-    (head : RequestHead) × (rest : List ℕ) × IsHead seen head rest × (is_foreign_head head ≡ false)
-    × HasNoRoute head.method (path_of head.target)
+Calls seen Nowhere = (head : RequestHead) × (rest : List ℕ) × Leads seen head rest None
 Calls seen (Command branch body) =
-    (head : RequestHead) × (rest : List ℕ) × (n : ℕ) × Leads seen head rest (commands branch)
+    (head : RequestHead) × (rest : List ℕ) × (n : ℕ) × Leads seen head rest (Some (to.Commands branch))
     × (body_length_of head ≡ Some n)
     × (n ≤ length rest) × (body ≡ take n rest)
-Calls seen (Balance branch date) = LeadTo seen (balance branch date)
-Calls seen (Journal branch) = LeadTo seen (journal branch)
-Calls seen (Register branch account tag) =
-    (head : RequestHead) × (rest : List ℕ) × Leads seen head rest (register branch)
-    × (wish_at head ≡ Some (record { account = account; tag = tag }))
-Calls seen (Transit date) = LeadTo seen (transit date)
-Calls seen Branches = LeadTo seen branches
-Calls seen Commodities = LeadTo seen commodities
-Calls seen (Accounts branch) = LeadTo seen (accounts branch)
-Calls seen (Transfers date) = LeadTo seen (transfers date)
+Calls seen (Report w given) =
+    (head : RequestHead) × (rest : List ℕ) × (path : List Given) × Leads seen head rest (Some (to.Report w path))
+    × (given_at head w path ≡ Some given)
 
 -- the most bytes that are read of a connection: those of a head, and those of a body
 abbrev pub most_read : ℕ
@@ -113,7 +100,7 @@ abbrev pub IsCutOff : List ℕ → Type 0
 IsCutOff seen =
     (HasNoRequest seen × (CanEnd seen ⊎ ((spaces seen ≡ 1) × MayBecomeRequest seen)))
     ⊎ ((head : RequestHead) × (rest : List ℕ) × (branch : Option (List ℕ)) × (n : ℕ)
-    × Leads seen head rest (commands branch) × (body_length_of head ≡ Some n) × (length rest < n))
+    × Leads seen head rest (Some (to.Commands branch)) × (body_length_of head ≡ Some n) × (length rest < n))
 
 -- a first part of a request was read
 pub record IsStopped (r0 r1 : Option (List ℕ)) : Type 0 where

@@ -1,12 +1,18 @@
--- The query of a target: what stands after its first question mark (RFC 3986, section 3.4). Which keys it has, and
--- that a `+` stands for itself, are own rules.
-use Rattle.std.specs.Prelude.{ℕ, ◌==◌, Bool, true, false, not, ◌&&◌, ◌||◌, if◌then◌else◌, List, [], ◌∷◌, codes, Option}
-use Rattle.std.specs.Prelude.{Some, None}
+-- The query of a target: what stands after its first question mark (RFC 3986, section 3.4). What it gives, and that a
+-- `+` stands for itself, are own rules.
+use Rattle.std.specs.Prelude.{ℕ, ◌==◌, Bool, true, false, not, ◌&&◌, ◌||◌, if◌then◌else◌, List, [], ◌∷◌, ◌++◌, length}
+use Rattle.std.specs.Prelude.{Option, Some, None, is_some, option_map, option_and_then}
 use Rattle.std.specs.Char.{is_ascii_hexdigit}
-use Rattle.std.specs.List.{after_first, before_first, list_any, slice_split}
-use Rattle.std.specs.Str.{bytes_eq, is_utf8}
+use Rattle.std.specs.List.{after_first, before_first, list_any, list_all, find}
+use Rattle.std.specs.Str.{is_utf8}
 use Rattle.percent_encoding.specs.Percent.{percent_decode}
-use Rattle.http_request.specs.declared.query.Wish.{Wish}
+use Rattle.treasury_requests.specs.declared.words.Word.{Word}
+use Rattle.treasury_requests.specs.declared.words.Key.{Key}
+use Rattle.treasury_requests.specs.declared.given.Given.{Given}
+use Rattle.treasury_requests.specs.Words.{needed}
+use Rattle.treasury_requests.specs.Keys.{keys_of, is_key_named}
+use Rattle.treasury_requests.specs.Given.{text_given}
+use Rattle.http_request.specs.Routes.{pieces_at, at_key}
 
 -- what stands after the first question mark; nothing where there is none
 abbrev pub query_of : List ℕ → List ℕ
@@ -29,46 +35,36 @@ abbrev pub decoded : List ℕ → Option (List ℕ)
 decoded written =
     if is_escaped written && is_utf8 (percent_decode written) then Some (percent_decode written) else None
 
--- what stands before the first `=` is this key
-abbrev pub is_query_key : List ℕ → Option (List ℕ) → Bool
-is_query_key key None = false
-is_query_key key (Some name) = bytes_eq name key
+-- what a piece of a query gives: the name of one of these keys, `=` and a text, both with escapes
+abbrev pub piece_given : List Key → List ℕ → Option Given
+piece_given keys piece =
+    if list_any (λ b. b == 61) piece then
+    option_and_then (λ name. option_and_then (λ k. option_map (at_key k) (decoded (after_first (λ b. b == 61) piece)))
+    (find (is_key_named name) keys)) (decoded (before_first (λ b. b == 61) piece))
+    else None
 
--- a piece of a query has this key before its first `=`
-abbrev pub has_query_key : List ℕ → List ℕ → Bool
-has_query_key key piece =
-    list_any (λ b. b == 61) piece && is_query_key key (decoded (before_first (λ b. b == 61) piece))
+-- what is given with one key more, unless that is given already
+abbrev pub with_key : List Given → Given → Option (List Given)
+with_key given more = if is_some (text_given given more.key) then None else Some (given ++ more ∷ [])
 
--- the value that a piece of a query has for a key: the key, `=`, and the value
-abbrev pub query_value : List ℕ → List ℕ → Option (List ℕ)
-query_value key piece = if has_query_key key piece then decoded (after_first (λ b. b == 61) piece) else None
+-- what pieces give beside what is given: each gives one of these keys, and no key is given twice
+abbrev pub pieces_given : List Key → List Given → List (List ℕ) → Option (List Given)
+pieces_given keys given [] = Some given
+pieces_given keys given (piece ∷ pieces) =
+    option_and_then (λ more. option_and_then (λ all. pieces_given keys all pieces) (with_key given more))
+    (piece_given keys piece)
 
--- an account and a tag, where both are there
-abbrev pub with_tag : Option (List ℕ) → Option (List ℕ) → Option Wish
-with_tag None tag = None
-with_tag (Some account) None = None
-with_tag (Some account) (Some tag) = Some (record { account = account; tag = Some tag })
+-- all is given that the word needs
+abbrev pub has_needed : Word → List Given → Bool
+has_needed w given = list_all (λ k. is_some (text_given given k)) (needed w)
 
--- an account alone
-abbrev pub without_tag : Option (List ℕ) → Option Wish
-without_tag None = None
-without_tag (Some account) = Some (record { account = account; tag = None })
+-- what is given, if that is all that the word needs
+abbrev pub if_all_needed : Word → List Given → Option (List Given)
+if_all_needed w given = if has_needed w given then Some given else None
 
--- the first, or the other where it is not there
-abbrev pub either : Option Wish → Option Wish → Option Wish
-either None other = other
-either (Some wish) other = Some wish
-
--- what the pieces ask a register of: `account`, and perhaps `tag`, each once, in any order; of three pieces one would
--- have a key that is unknown, or there twice
-abbrev pub wish_in : List (List ℕ) → Option Wish
-wish_in [] = None
-wish_in (piece ∷ []) = without_tag (query_value (codes "account") piece)
-wish_in (one ∷ two ∷ []) =
-    either (with_tag (query_value (codes "account") one) (query_value (codes "tag") two))
-    (with_tag (query_value (codes "account") two) (query_value (codes "tag") one))
-wish_in (one ∷ two ∷ three ∷ more) = None
-
--- what a query asks a register of: `&` divides its pieces
-abbrev pub wish_of : List ℕ → Option Wish
-wish_of query = wish_in (slice_split (λ b. b == 38) query)
+-- what a path gives together with a query, of which `&` divides the pieces; where the path gives all keys of the word,
+-- the query is not looked at
+unfoldable pub with_query : Word → List Given → List ℕ → Option (List Given)
+with_query w given query =
+    if length given == length (keys_of w) then Some given
+    else option_and_then (if_all_needed w) (pieces_given (keys_of w) given (pieces_at 38 (Some query)))

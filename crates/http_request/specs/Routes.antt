@@ -1,45 +1,57 @@
 -- The routes (own rule): a method, a path, and the parts of the path, which are taken as they stand.
-use Rattle.std.specs.Prelude.{◌≡◌, ℕ, ◌==◌, Bool, true, not, ◌&&◌, List, ◌∷◌, ◌++◌, length, codes, nat_lt, Option}
-use Rattle.std.specs.Prelude.{Some, None}
-use Rattle.std.specs.List.{list_any}
+use Rattle.std.specs.Prelude.{ℕ, ◌==◌, ◌&&◌, if◌then◌else◌, List, [], ◌∷◌, ◌++◌, codes, Option, Some, None}
+use Rattle.std.specs.Prelude.{option_map, option_and_then}
+use Rattle.std.specs.List.{slice_split, find}
+use Rattle.std.specs.Option.{option_or}
+use Rattle.std.specs.Str.{bytes_eq}
+use Rattle.treasury_requests.specs.declared.words.Key.{Key}
+use Rattle.treasury_requests.specs.declared.given.Given.{Given}
+use Rattle.treasury_requests.specs.Words.{all_words, is_word_named, paths}
+use Rattle.http_request.specs.declared.routes.Route.{Route}
+use Rattle.http_request.specs.declared.routes.Route.TheVariants.{Commands, Report}
 
--- a part of a path in braces: at least one byte, and no slash
-abbrev pub is_path_part : List ℕ → Bool
-is_path_part part = nat_lt 0 (length part) && not (list_any (λ b. b == 47) part)
+-- what stands between the bytes of that value; nothing in no text
+abbrev pub pieces_at : ℕ → Option (List ℕ) → List (List ℕ)
+pieces_at at None = []
+pieces_at at (Some text) = slice_split (λ b. b == at) text
 
--- the routes, with the parts of their paths; that of commands has a branch where it is for those of that branch
-pub data Routed : Type 0 where
-  commands : Option (List ℕ) → Routed
-  balance : List ℕ → List ℕ → Routed
-  journal : List ℕ → Routed
-  register : List ℕ → Routed
-  transit : List ℕ → Routed
-  branches : Routed
-  commodities : Routed
-  accounts : List ℕ → Routed
-  transfers : List ℕ → Routed
+-- what is given at a key
+abbrev pub at_key : Key → List ℕ → Given
+at_key key text = record { key = key; text = text }
 
--- a method and a path lead to a route
-abbrev pub LeadsTo : List ℕ → List ℕ → Routed → Type 0
-LeadsTo method path (commands None) = (method ≡ codes "POST") × (path ≡ codes "/commands")
-LeadsTo method path (commands (Some branch)) =
-    (method ≡ codes "POST") × (path ≡ codes "/commands/" ++ branch) × (is_path_part branch ≡ true)
-LeadsTo method path (balance branch date) =
-    (method ≡ codes "GET") × (path ≡ codes "/balance/" ++ branch ++ 47 ∷ date) × (is_path_part branch ≡ true)
-    × (is_path_part date ≡ true)
-LeadsTo method path (journal branch) =
-    (method ≡ codes "GET") × (path ≡ codes "/journal/" ++ branch) × (is_path_part branch ≡ true)
-LeadsTo method path (register branch) =
-    (method ≡ codes "GET") × (path ≡ codes "/register/" ++ branch) × (is_path_part branch ≡ true)
-LeadsTo method path (transit date) =
-    (method ≡ codes "GET") × (path ≡ codes "/transit/" ++ date) × (is_path_part date ≡ true)
-LeadsTo method path branches = (method ≡ codes "GET") × (path ≡ codes "/branches")
-LeadsTo method path commodities = (method ≡ codes "GET") × (path ≡ codes "/commodities")
-LeadsTo method path (accounts branch) =
-    (method ≡ codes "GET") × (path ≡ codes "/accounts/" ++ branch) × (is_path_part branch ≡ true)
-LeadsTo method path (transfers date) =
-    (method ≡ codes "GET") × (path ≡ codes "/transfers/" ++ date) × (is_path_part date ≡ true)
+-- what the parts of a path give at these keys, beside what is given: there are as many, and none is empty
+abbrev pub parts_given : List Given → List Key → List (List ℕ) → Option (List Given)
+parts_given given [] [] = Some given
+parts_given given (k ∷ keys) ((b ∷ part) ∷ parts) = parts_given (given ++ at_key k (b ∷ part) ∷ []) keys parts
+parts_given given _ _ = None
 
--- they lead to none
-abbrev pub HasNoRoute : List ℕ → List ℕ → Type 0
-HasNoRoute method path = (route : Routed) → ¬ (LeadsTo method path route)
+-- the same at the keys of the first of these paths that has as many
+abbrev pub paths_given : List (List Key) → List (List ℕ) → Option (List Given)
+paths_given [] parts = None
+paths_given (keys ∷ others) parts = option_or (parts_given [] keys parts) (paths_given others parts)
+
+-- the route of commands, or of those of one branch
+abbrev pub command_at : List (List ℕ) → Option Route
+command_at [] = Some (Commands None)
+command_at ((b ∷ branch) ∷ []) = Some (Commands (Some (b ∷ branch)))
+command_at _ = None
+
+-- the route of a report, by its row of the table of words
+abbrev pub report_at : List ℕ → List (List ℕ) → Option Route
+report_at name parts =
+    option_and_then (λ w. option_map (Report w) (paths_given (paths w) parts)) (find (is_word_named name) all_words)
+
+-- the route of a method and a path of that name with these parts
+abbrev pub route_by : List ℕ → List ℕ → List (List ℕ) → Option Route
+route_by method name parts =
+    if bytes_eq method (codes "POST") && bytes_eq name (codes "commands") then command_at parts
+    else if bytes_eq method (codes "GET") then report_at name parts else None
+
+-- the same by the pieces of a path: in front of its name stands a slash, and so before each part
+abbrev pub route_in : List ℕ → List (List ℕ) → Option Route
+route_in method ([] ∷ name ∷ parts) = route_by method name parts
+route_in method _ = None
+
+-- the route that a method and a path lead to; none where no row has this path
+unfoldable pub route_of : List ℕ → List ℕ → Option Route
+route_of method path = route_in method (slice_split (λ b. b == 47) path)

@@ -1,25 +1,22 @@
-//! The query of a request's target, and the keys of a register.
+//! The query of a request's target, and the keys of a report that it gives.
 //!
 //! `&` and `%` have to be told from what divides a query, so keys and values are percent-decoded (RFC 3986). A `+` is
 //! a plus: forms write a blank so, but an account may have a `+`, and a query is no form. An unknown key is refused,
 //! since a misspelt `tag` would show more than was asked for; so is one that is there twice, since nobody can say
 //! which counts.
 
-ghost use Rattle.std.specs.Prelude.{◌≡◌, ◌∷◌, [], IfOk, codes};
+ghost use Rattle.std.specs.Prelude.{◌≡◌, IfOk, option_copied};
 ghost use Rattle.std.specs.Result.{IsOkUnless};
-ghost use Rattle.http_request.specs.Query.{query_of, begins_with_digits, is_escaped, decoded, query_value, with_tag};
-ghost use Rattle.http_request.specs.Query.{without_tag, wish_in, wish_of};
+ghost use Rattle.treasury_requests.specs.Keys.{keys_of};
+ghost use Rattle.http_request.specs.Routes.{pieces_at};
+ghost use Rattle.http_request.specs.Query.{query_of, begins_with_digits, is_escaped, decoded, piece_given};
+ghost use Rattle.http_request.specs.Query.{pieces_given, has_needed, with_query};
 
-use money_core::{Cause, Text};
+use crate::routes::cut;
+use money_core::{Cause, Items, Text};
 use percent_encoding::percent_decode_str;
 use std::alloc::Global;
-
-/// What a register is asked of.
-#[derive(Debug, Drop)]
-pub struct Wish {
-    pub account: Text,
-    pub tag: Option<Text>,
-}
+use treasury_requests::{Fields, Given, Word, key_named};
 
 /// The target after its first question mark; nothing where there is none.
 pub fn query_of(target: &str) -> &str
@@ -77,78 +74,83 @@ fn decoded(alloc: Global, written: &str) -> Result<Option<Text>, Cause>
     }
 }
 
-/// The value that a piece of a query has for a key.
-fn value_of(alloc: Global, key: &str, piece: &str) -> Result<Option<Text>, Cause>
-    ensures value { IfOk result (λ value. value ≡ query_value key.now piece.now) }
+/// What a piece of a query gives: a key that the request of the word may have, `=` and its text, both with escapes.
+fn piece_given(alloc: Global, word: Word, piece: &str) -> Result<Option<Given>, Cause>
+    ensures value { IfOk result (λ given. given ≡ piece_given (keys_of word) piece.now) }
     ensures memory { IsOkUnless result Cause.OutOfMemory }
 {
-    let Some((name, value)) = piece.split_once('=') else {
+    let Some((name, text)) = piece.split_once('=') else {
         return Ok(None);
     };
-    match decoded(alloc, name) {
-        Ok(Some(name)) if name.as_str() == key => decoded(alloc, value),
+    let Some(name) = decoded(alloc, name)? else {
+        return Ok(None);
+    };
+    let Some(key) = key_named(word, name.as_str()) else {
+        return Ok(None);
+    };
+    match decoded(alloc, text) {
+        Ok(Some(text)) => Ok(Some(Given { key, text })),
+        Ok(None) => Ok(None),
+        Err(cause) => Err(cause),
+    }
+}
+
+/// What the pieces of a query give beside what is given: `None` where one gives nothing, or a key is given twice.
+fn pieces_given(
+    alloc: Global,
+    word: Word,
+    pieces: Option<&str>,
+    given: Items<Given>,
+) -> Result<Option<Items<Given>>, Cause>
+    ensures value { IfOk result (λ found.
+        found ≡ pieces_given (keys_of word) given (pieces_at 38 (option_copied pieces.entry))) }
+    ensures memory { IsOkUnless result Cause.OutOfMemory }
+{
+    let Some(pieces) = pieces else {
+        return Ok(Some(given));
+    };
+    let (piece, rest) = cut(pieces, b'&');
+    match piece_given(alloc, word, piece) {
+        Ok(Some(more)) if given.text(more.key).is_none() => {
+            let mut given = given;
+            given.push(more)?;
+            pieces_given(alloc, word, rest, given)
+        }
         Ok(_) => Ok(None),
         Err(cause) => Err(cause),
     }
 }
 
-/// The account that a piece names, without a tag.
-fn without_tag(alloc: Global, account: &str) -> Result<Option<Wish>, Cause>
-    ensures value { IfOk result (λ wish. wish ≡ without_tag (query_value (codes "account") account.now)) }
-    ensures memory { IsOkUnless result Cause.OutOfMemory }
+/// Whether all is given that the word needs.
+fn has_needed(word: Word, given: &Items<Given>) -> bool
+    ensures { result ≡ has_needed word given.now }
 {
-    match value_of(alloc, "account", account) {
-        Ok(Some(account)) => Ok(Some(Wish { account, tag: None })),
-        Ok(None) => Ok(None),
-        Err(cause) => Err(cause),
-    }
+    word.row()
+        .needed
+        .iter()
+        .all(|key| given.text(*key).is_some())
 }
 
-/// The account that one piece names, and the tag that the other names.
-fn with_tag(alloc: Global, account: &str, tag: &str) -> Result<Option<Wish>, Cause>
-    ensures value { IfOk result (λ wish.
-        wish ≡ with_tag (query_value (codes "account") account.now) (query_value (codes "tag") tag.now)) }
-    ensures memory { IsOkUnless result Cause.OutOfMemory }
-{
-    let account = match value_of(alloc, "account", account) {
-        Ok(Some(account)) => account,
-        Ok(None) => return Ok(None),
-        Err(cause) => return Err(cause),
-    };
-    match value_of(alloc, "tag", tag) {
-        Ok(Some(tag)) => Ok(Some(Wish {
-            account,
-            tag: Some(tag),
-        })),
-        Ok(None) => Ok(None),
-        Err(cause) => Err(cause),
-    }
-}
-
-/// What two pieces ask a register of, in either order.
-fn in_two(alloc: Global, one: &str, two: &str) -> Result<Option<Wish>, Cause>
-    ensures value { IfOk result (λ wish. wish ≡ wish_in (one.now ∷ two.now ∷ [])) }
-    ensures memory { IsOkUnless result Cause.OutOfMemory }
-{
-    match with_tag(alloc, one, two) {
-        Ok(None) => with_tag(alloc, two, one),
-        found => found,
-    }
-}
-
-/// What a query asks a register of; `None` where it does not say that.
+/// What a path gives together with a query; `None` where they do not give the keys of the word's request, each once.
 ///
-/// It has `account` and perhaps `tag`, each once, in any order: each is a key, `=` and its value, with escapes, and `&`
-/// stands between them.
-pub fn wish_of(alloc: Global, query: &str) -> Result<Option<Wish>, Cause>
-    ensures value { IfOk result (λ wish. wish ≡ wish_of query.now) }
+/// Where the path gives all of them, the query is not looked at.
+#[tactic(auto, unfolding(crate::specs::Query::with_query))]
+pub fn with_query(
+    alloc: Global,
+    word: Word,
+    given: Items<Given>,
+    query: &str,
+) -> Result<Option<Items<Given>>, Cause>
+    ensures value { IfOk result (λ found. found ≡ with_query word given query.now) }
     ensures memory { IsOkUnless result Cause.OutOfMemory }
 {
-    match query.split_once('&') {
-        None => without_tag(alloc, query),
-        Some((one, two)) => match two.split_once('&') {
-            None => in_two(alloc, one, two),
-            Some(_) => Ok(None),
-        },
+    let row = word.row();
+    if given.items().len() == row.needed.len() + row.further.len() {
+        return Ok(Some(given));
+    }
+    match pieces_given(alloc, word, Some(query), given) {
+        Ok(Some(given)) if has_needed(word, &given) => Ok(Some(given)),
+        Ok(_) => Ok(None),
+        Err(cause) => Err(cause),
     }
 }

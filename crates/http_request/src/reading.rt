@@ -6,9 +6,11 @@ ghost use Rattle.std.specs.Str.{IsUtf8};
 ghost use Rattle.httparse.specs.Spans.{IsRequestWithin, header_bytes};
 ghost use Rattle.http_request.specs.Foreign.{is_foreign};
 ghost use Rattle.http_request.specs.Accept.{form_of};
-ghost use Rattle.http_request.specs.Query.{wish_of};
+ghost use Rattle.http_request.specs.Path.{path_of};
+ghost use Rattle.http_request.specs.Query.{query_of, with_query};
+ghost use Rattle.http_request.specs.Routes.{route_of};
 ghost use Rattle.http_request.specs.Call.{ReadsCall, IsStopped};
-ghost use Rattle.http_request.specs.Calling.{route_view, register_by, wanted_at, Wants, CallsBy, LacksBytes};
+ghost use Rattle.http_request.specs.Calling.{report_by, CallsBy, LacksBytes};
 
 use crate::accept::form_of;
 use crate::body::read_body;
@@ -17,95 +19,38 @@ use crate::foreign::is_foreign;
 use crate::head::{MAX_HEADERS, read_head};
 use crate::length::body_length;
 use crate::path::path_of;
-use crate::query::{query_of, wish_of};
+use crate::query::{query_of, with_query};
 use crate::routes::{Route, find_route};
 use httparse::spans::{EMPTY_HEADER_SPAN, HeaderSpan, RequestSpans};
 use money_core::{Cause, Items, Text};
 use std::alloc::Global;
 use std::io::Read;
+use treasury_requests::{Given, Word};
 
-/// What a method and a target call for, before a body is read.
-enum Wanted {
-    /// This, which has no body.
-    Whole(Call),
-    /// A command, whose body has to be read; only of a branch, where the path names one.
-    Command { branch: Option<Text> },
-}
-
-/// What is called for of the register of a branch with this query.
-fn register_by(alloc: Global, branch: &str, query: &str) -> Result<Call, Cause>
-    ensures value { IfOk result (λ call. call ≡ register_by branch.now (wish_of query.now)) }
-    ensures memory { IsOkUnless result Cause.OutOfMemory }
-{
-    match wish_of(alloc, query) {
-        Ok(Some(wish)) => {
-            let branch = Text::of(alloc, branch)?;
-            Ok(Call::Register {
-                branch,
-                account: wish.account,
-                tag: wish.tag,
-            })
-        }
-        Ok(None) => Ok(Call::Unreadable),
-        Err(cause) => Err(cause),
-    }
-}
-
-/// What a route calls for with this query.
-fn wanted_at(alloc: Global, route: Route<'_>, query: &str) -> Result<Wanted, Cause>
-    ensures value { IfOk result (λ wanted. wanted ≡ wanted_at query.now (route_view route.entry)) }
-    ensures memory { IsOkUnless result Cause.OutOfMemory }
-{
-    match route {
-        Route::Commands => Ok(Wanted::Command { branch: None }),
-        Route::CommandsOf { branch } => {
-            let branch = Text::of(alloc, branch)?;
-            Ok(Wanted::Command {
-                branch: Some(branch),
-            })
-        }
-        Route::Balance { branch, date } => {
-            let branch = Text::of(alloc, branch)?;
-            let date = Text::of(alloc, date)?;
-            Ok(Wanted::Whole(Call::Balance { branch, date }))
-        }
-        Route::Journal { branch } => {
-            let branch = Text::of(alloc, branch)?;
-            Ok(Wanted::Whole(Call::Journal { branch }))
-        }
-        Route::Register { branch } => {
-            let call = register_by(alloc, branch, query)?;
-            Ok(Wanted::Whole(call))
-        }
-        Route::Transit { date } => {
-            let date = Text::of(alloc, date)?;
-            Ok(Wanted::Whole(Call::Transit { date }))
-        }
-        Route::Branches => Ok(Wanted::Whole(Call::Branches)),
-        Route::Commodities => Ok(Wanted::Whole(Call::Commodities)),
-        Route::Accounts { branch } => {
-            let branch = Text::of(alloc, branch)?;
-            Ok(Wanted::Whole(Call::Accounts { branch }))
-        }
-        Route::Transfers { date } => {
-            let date = Text::of(alloc, date)?;
-            Ok(Wanted::Whole(Call::Transfers { date }))
-        }
-    }
-}
-
-/// What a method and a target call for.
-fn wanted_by(alloc: Global, method: &[u8], target: &[u8]) -> Result<Wanted, Cause>
+/// Where a method and a target lead.
+fn route_to(alloc: Global, method: &[u8], target: &[u8]) -> Result<Option<Route>, Cause>
     requires { IsUtf8 target.now }
-    ensures wants { IfOk result (Wants method.now target.now) }
+    ensures value { IfOk result (λ route. route ≡ route_of method.now (path_of target.now)) }
     ensures memory { IsOkUnless result Cause.OutOfMemory }
 {
     let Ok(target) = str::from_utf8(target) else {
         unreachable!()
     };
-    match find_route(alloc, method, path_of(target)) {
-        Ok(Some(route)) => wanted_at(alloc, route, query_of(target)),
-        Ok(None) => Ok(Wanted::Whole(Call::Nowhere)),
+    find_route(alloc, method, path_of(target))
+}
+
+/// What is called for of a report, of which the path gives this, with the query of the target.
+fn report_by(alloc: Global, word: Word, given: Items<Given>, target: &[u8]) -> Result<Call, Cause>
+    requires { IsUtf8 target.now }
+    ensures value { IfOk result (λ call. call ≡ report_by word (with_query word given (query_of target.now))) }
+    ensures memory { IsOkUnless result Cause.OutOfMemory }
+{
+    let Ok(target) = str::from_utf8(target) else {
+        unreachable!()
+    };
+    match with_query(alloc, word, given, query_of(target)) {
+        Ok(Some(given)) => Ok(Call::Report { word, given }),
+        Ok(None) => Ok(Call::Unreadable),
         Err(cause) => Err(cause),
     }
 }
@@ -181,9 +126,18 @@ pub fn read_call<R: Read>(alloc: Global, reader: &mut R) -> Result<Received, Cau
             form,
         });
     }
-    match wanted_by(alloc, spans.method.of(&text), spans.path.of(&text)) {
-        Ok(Wanted::Whole(call)) => Ok(Received { call, form }),
-        Ok(Wanted::Command { branch }) => {
+    let method = spans.method.of(&text);
+    let target = spans.path.of(&text);
+    match route_to(alloc, method, target) {
+        Ok(None) => Ok(Received {
+            call: Call::Nowhere,
+            form,
+        }),
+        Ok(Some(Route::Report { word, given })) => match report_by(alloc, word, given, target) {
+            Ok(report) => Ok(Received { call: report, form }),
+            Err(cause) => Err(cause),
+        },
+        Ok(Some(Route::Commands { branch })) => {
             let size = body_length(&text, &headers[..spans.headers]);
             match read_command(alloc, reader, branch, &text[spans.len..], size) {
                 Ok(call) => Ok(Received { call, form }),

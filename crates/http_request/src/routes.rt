@@ -1,196 +1,179 @@
 //! The routes, and the one that a method and a path lead to.
 
-ghost use Rattle.std.specs.Prelude.{◌≡◌, ◌≢◌, ◌++◌, ◌∷◌, ◌&&◌, ℕ, List, Ok, None, true, false, codes, IfOk, IfSome};
-ghost use Rattle.std.specs.Prelude.{MatchOption};
+ghost use Rattle.std.specs.Prelude.{◌≡◌, ◌<◌, ◌==◌, ◌∷◌, ℕ, List, Ok, None, IfOk, MatchOption, option_copied, map};
 ghost use Rattle.std.specs.Result.{IsOkUnless};
+ghost use Rattle.std.specs.List.{slice_split};
 ghost use Rattle.http_header.specs.Token.{IsToken};
-ghost use Rattle.http_request.specs.Routes.{is_path_part, LeadsTo, HasNoRoute};
-ghost use Rattle.http_request.specs.Calling.{route_view};
-ghost use Rattle.http_request.specs.Rows.{shape_rows, HasNoRouteOf};
+ghost use Rattle.http_request.specs.Routes.{pieces_at, parts_given, paths_given, command_at, report_at, route_by};
+ghost use Rattle.http_request.specs.Routes.{route_of};
+ghost use Rattle.http_request.specs.Rows.{path_rows};
 
 use http::Method;
 use http::method::MethodError;
 use matchit::{InsertError, Router};
-use money_core::Cause;
+use money_core::{Cause, Items, Text};
 use std::alloc::Global;
+use treasury_requests::{Given, Key, Word, word_named};
 
-/// Which shape a path has.
-#[derive(Clone, Copy, Debug, PartialEq, Eq)]
-enum Shape {
-    /// A name alone, as in `/branches`.
-    Name,
-    /// A name with parts after it, as in `/journal/north`.
-    Parts,
+/// Where a method and a path lead.
+#[derive(Debug, Drop)]
+pub enum Route {
+    /// To commands; only to those of a branch, where the path names one.
+    Commands { branch: Option<Text> },
+    /// To a report, of which the path gives this.
+    Report { word: Word, given: Items<Given> },
 }
 
-/// A route, with the parts of its path.
-#[derive(Clone, Copy, Debug, Drop)]
-pub enum Route<'p> {
-    Commands,
-    CommandsOf { branch: &'p str },
-    Balance { branch: &'p str, date: &'p str },
-    Journal { branch: &'p str },
-    Register { branch: &'p str },
-    Transit { date: &'p str },
-    Branches,
-    Commodities,
-    Accounts { branch: &'p str },
-    Transfers { date: &'p str },
-}
-
-/// A router with the shapes of the paths that have a route.
+/// A router with the shapes of all paths.
 ///
 /// It is made for each request, so it does not hold the routes themselves: they would cost many times as much.
-fn make_shapes(alloc: Global) -> Result<Router<Shape>, InsertError>
-    ensures { IfOk result (λ router. router ≡ shape_rows) }
+fn make_router(alloc: Global) -> Result<Router<()>, InsertError>
+    ensures { IfOk result (λ router. router ≡ path_rows) }
 {
     let mut router = Router::new(alloc);
-    router.insert("/{name}", Shape::Name)?;
-    router.insert("/{name}/{*parts}", Shape::Parts)?;
+    router.insert("/{name}", ())?;
+    router.insert("/{name}/{*parts}", ())?;
     Ok(router)
 }
 
-/// Whether the text can stand for a part of a path in braces.
-fn is_part(text: &str) -> bool
-    ensures { result ≡ is_path_part text.now }
+/// The text up to the first byte of this value, and what stands behind that byte, if it is there.
+pub fn cut<'t>(text: &'t str, at: u8) -> (&'t str, Option<&'t str>)
+    requires { at < 128 }
+    ensures { slice_split (λ b. b == at) text.now ≡ result.0.now ∷ pieces_at at (option_copied result.1) }
 {
-    !text.is_empty() && !text.as_bytes().contains(&b'/')
-}
-
-/// The part of the path after its front, where nothing else follows.
-fn part_behind<'p>(path: &'p str, front: &str) -> Option<&'p str>
-    ensures { MatchOption result ((part : List ℕ) → is_path_part part ≡ true → path.now ≢ front.now ++ part)
-        (λ part. (path.now ≡ front.now ++ part.now) × (is_path_part part.now ≡ true)) }
-{
-    match path.strip_prefix(front) {
-        Some(part) if is_part(part) => Some(part),
-        _ => None,
+    match text.split_once(char::from(at)) {
+        Some((first, rest)) => (first, Some(rest)),
+        None => (text, None),
     }
 }
 
-/// Both texts, where each can stand for a part of a path.
-fn both_parts<'p>(one: &'p str, two: &'p str) -> Option<(&'p str, &'p str)>
-    ensures { MatchOption result ((is_path_part one.now && is_path_part two.now) ≡ false)
-        (λ parts. (parts.0.now ≡ one.now) × (parts.1.now ≡ two.now) × (is_path_part one.now ≡ true)
-        × (is_path_part two.now ≡ true)) }
+/// What the parts of a path give at these keys, beside what is given; `None` where there are more or fewer, or one is
+/// empty.
+fn parts_given(
+    alloc: Global,
+    keys: &[Key],
+    parts: Option<&str>,
+    given: Items<Given>,
+) -> Result<Option<Items<Given>>, Cause>
+    ensures value { IfOk result
+        (λ found. found ≡ parts_given given keys.now (pieces_at 47 (option_copied parts.entry))) }
+    ensures memory { IsOkUnless result Cause.OutOfMemory }
 {
-    if is_part(one) && is_part(two) {
-        Some((one, two))
-    } else {
-        None
+    match keys.split_first() {
+        None => match parts {
+            None => Ok(Some(given)),
+            Some(_) => Ok(None),
+        },
+        Some((key, keys)) => {
+            let Some(parts) = parts else {
+                return Ok(None);
+            };
+            let (part, parts) = cut(parts, b'/');
+            if part.is_empty() {
+                return Ok(None);
+            }
+            let text = Text::of(alloc, part)?;
+            let mut given = given;
+            given.push(Given { key: *key, text })?;
+            parts_given(alloc, keys, parts, given)
+        }
     }
 }
 
-/// The two parts of the path after its front, with a slash between them, where nothing else follows.
-fn parts_behind<'p>(path: &'p str, front: &str) -> Option<(&'p str, &'p str)>
-    ensures { MatchOption result ((one : List ℕ) → (two : List ℕ) → is_path_part one ≡ true → is_path_part two ≡ true
-        → path.now ≢ front.now ++ (one ++ 47 ∷ two))
-        (λ parts. (path.now ≡ front.now ++ (parts.0.now ++ 47 ∷ parts.1.now)) × (is_path_part parts.0.now ≡ true)
-        × (is_path_part parts.1.now ≡ true)) }
+/// What the parts of a path give at the keys of the first of these paths that has as many.
+fn paths_given(
+    alloc: Global,
+    paths: &[&[Key]],
+    parts: Option<&str>,
+) -> Result<Option<Items<Given>>, Cause>
+    ensures value { IfOk result (λ found.
+        found ≡ paths_given (map (λ path. path.now) paths.now) (pieces_at 47 (option_copied parts.entry))) }
+    ensures memory { IsOkUnless result Cause.OutOfMemory }
 {
-    let rest = match path.strip_prefix(front) {
-        Some(rest) => rest,
-        None => return None,
+    match paths.split_first() {
+        Some((path, paths)) => match parts_given(alloc, path, parts, Items::empty(alloc)) {
+            Ok(None) => paths_given(alloc, paths, parts),
+            found => found,
+        },
+        None => Ok(None),
+    }
+}
+
+/// The route of commands with these parts of a path: none, or a branch.
+fn command_at(alloc: Global, parts: Option<&str>) -> Result<Option<Route>, Cause>
+    ensures value { IfOk result (λ route. route ≡ command_at (pieces_at 47 (option_copied parts.entry))) }
+    ensures memory { IsOkUnless result Cause.OutOfMemory }
+{
+    let Some(parts) = parts else {
+        return Ok(Some(Route::Commands { branch: None }));
     };
-    match rest.split_once('/') {
-        Some((one, two)) => both_parts(one, two),
-        None => None,
+    match cut(parts, b'/') {
+        (branch, None) => {
+            if branch.is_empty() {
+                return Ok(None);
+            }
+            let branch = Text::of(alloc, branch)?;
+            Ok(Some(Route::Commands {
+                branch: Some(branch),
+            }))
+        }
+        (_, Some(_)) => Ok(None),
     }
 }
 
-/// The route of a method and a path that is a name alone.
-fn route_of_name<'p>(method: &Method, path: &str) -> Option<Route<'p>>
-    ensures found { IfSome result (λ route. LeadsTo method.now path.now (route_view route)) }
-    ensures missing { result ≡ None → HasNoRouteOf Shape.Name method.now path.now }
+/// The route of the report of that name with these parts of a path.
+fn report_at(alloc: Global, name: &str, parts: Option<&str>) -> Result<Option<Route>, Cause>
+    ensures value { IfOk result (λ route. route ≡ report_at name.now (pieces_at 47 (option_copied parts.entry))) }
+    ensures memory { IsOkUnless result Cause.OutOfMemory }
 {
-    match method.as_str() {
-        "POST" if path == "/commands" => Some(Route::Commands),
-        "GET" if path == "/branches" => Some(Route::Branches),
-        "GET" if path == "/commodities" => Some(Route::Commodities),
-        _ => None,
+    let Some(word) = word_named(name) else {
+        return Ok(None);
+    };
+    match paths_given(alloc, word.row().paths, parts) {
+        Ok(Some(given)) => Ok(Some(Route::Report { word, given })),
+        Ok(None) => Ok(None),
+        Err(cause) => Err(cause),
     }
 }
 
-/// The route of a `GET` of a path with parts.
-fn report_of_parts<'p>(path: &'p str) -> Option<Route<'p>>
-    ensures found { IfSome result (λ route. LeadsTo (codes "GET") path.now (route_view route)) }
-    ensures missing { result ≡ None → HasNoRouteOf Shape.Parts (codes "GET") path.now }
+/// The route of a method and a path of that name with these parts.
+fn route_by(
+    alloc: Global,
+    method: &Method,
+    name: &str,
+    parts: Option<&str>,
+) -> Result<Option<Route>, Cause>
+    ensures value { IfOk result
+        (λ route. route ≡ route_by method.now name.now (pieces_at 47 (option_copied parts.entry))) }
+    ensures memory { IsOkUnless result Cause.OutOfMemory }
 {
-    if let Some((branch, date)) = parts_behind(path, "/balance/") {
-        return Some(Route::Balance { branch, date });
-    }
-    if let Some(branch) = part_behind(path, "/journal/") {
-        return Some(Route::Journal { branch });
-    }
-    if let Some(branch) = part_behind(path, "/register/") {
-        return Some(Route::Register { branch });
-    }
-    if let Some(date) = part_behind(path, "/transit/") {
-        return Some(Route::Transit { date });
-    }
-    if let Some(branch) = part_behind(path, "/accounts/") {
-        return Some(Route::Accounts { branch });
-    }
-    match part_behind(path, "/transfers/") {
-        Some(date) => Some(Route::Transfers { date }),
-        None => None,
+    if method.as_str() == "POST" && name == "commands" {
+        command_at(alloc, parts)
+    } else if method.as_str() == "GET" {
+        report_at(alloc, name, parts)
+    } else {
+        Ok(None)
     }
 }
 
-/// The route of a `POST` to a path with parts.
-fn command_of_parts<'p>(path: &'p str) -> Option<Route<'p>>
-    ensures found { IfSome result (λ route. LeadsTo (codes "POST") path.now (route_view route)) }
-    ensures missing { result ≡ None → HasNoRouteOf Shape.Parts (codes "POST") path.now }
-{
-    match part_behind(path, "/commands/") {
-        Some(branch) => Some(Route::CommandsOf { branch }),
-        None => None,
-    }
-}
-
-/// The route of a method and a path with parts.
-fn route_of_parts<'p>(method: &Method, path: &'p str) -> Option<Route<'p>>
-    ensures found { IfSome result (λ route. LeadsTo method.now path.now (route_view route)) }
-    ensures missing { result ≡ None → HasNoRouteOf Shape.Parts method.now path.now }
-{
-    match method.as_str() {
-        "GET" => report_of_parts(path),
-        "POST" => command_of_parts(path),
-        _ => None,
-    }
-}
-
-/// The route of a method and a path of this shape.
-fn route_of_shape<'p>(shape: Shape, method: &Method, path: &'p str) -> Option<Route<'p>>
-    ensures found { IfSome result (λ route. LeadsTo method.now path.now (route_view route)) }
-    ensures missing { result ≡ None → HasNoRouteOf shape method.now path.now }
-{
-    match shape {
-        Shape::Name => route_of_name(method, path),
-        Shape::Parts => route_of_parts(method, path),
-    }
-}
-
-/// The route that a method and a path lead to, by a router of shapes; `None` exactly where there is none.
-fn route_of<'p>(router: &Router<Shape>, method: &Method, path: &'p str) -> Option<Route<'p>>
-    requires { router.now ≡ shape_rows }
-    ensures found { IfSome result (λ route. LeadsTo method.now path.now (route_view route)) }
-    ensures missing { result ≡ None → HasNoRoute method.now path.now }
+/// The name of a path, and its parts, if it has some; `None` only where no method leads anywhere with it.
+fn name_and_parts<'p>(router: &Router<()>, path: &'p str) -> Option<(&'p str, Option<&'p str>)>
+    requires { router.now ≡ path_rows }
+    ensures { MatchOption result ((method : List ℕ) → route_of method path.now ≡ None) (λ cut. (method : List ℕ)
+        → route_of method path.now ≡ route_by method cut.0.now (pieces_at 47 (option_copied cut.1))) }
 {
     match router.at(path) {
-        Ok(found) => route_of_shape(*found.value, method, path),
+        Ok(found) => match found.params.get("name") {
+            Some(name) => Some((name, found.params.get("parts"))),
+            None => None,
+        },
         Err(_) => None,
     }
 }
 
-/// The route that a method and a path lead to; `None` exactly where there is none.
-pub fn find_route<'p>(
-    alloc: Global,
-    method: &[u8],
-    path: &'p str,
-) -> Result<Option<Route<'p>>, Cause>
-    ensures found { IfOk result (λ found.
-        MatchOption found (HasNoRoute method.now path.now) (λ route. LeadsTo method.now path.now (route_view route))) }
+/// The route that a method and a path lead to, if there is one.
+pub fn find_route(alloc: Global, method: &[u8], path: &str) -> Result<Option<Route>, Cause>
+    ensures value { IfOk result (λ route. route ≡ route_of method.now path.now) }
     // What is no method leads nowhere, whether or not there is memory.
     ensures token { (IsToken method.now → ⊥) → result ≡ Ok None }
     ensures memory { IsOkUnless result Cause.OutOfMemory }
@@ -201,9 +184,13 @@ pub fn find_route<'p>(
         Err(MethodError::Invalid) => return Ok(None),
         Err(MethodError::OutOfMemory) => return Err(Cause::OutOfMemory),
     };
-    match make_shapes(alloc) {
-        Ok(router) => Ok(route_of(&router, &method, path)),
+    let router = match make_router(alloc) {
+        Ok(router) => router,
         // The shapes stand beside one another, so it is memory that lacks.
-        Err(_) => Err(Cause::OutOfMemory),
+        Err(_) => return Err(Cause::OutOfMemory),
+    };
+    match name_and_parts(&router, path) {
+        Some((name, parts)) => route_by(alloc, &method, name, parts),
+        None => Ok(None),
     }
 }

@@ -1,4 +1,4 @@
-use Rattle.std.proofs.Common.{◌≡◌, ◌+◌, ◌∙◌, arith, refl}
+use Rattle.std.proofs.Common.{◌+◌, ◌∙◌, arith, refl}
 use Rattle.journal_lines.proofs.LineSteps.{whole_rest}
 use Rattle.http_request.proofs.AcceptLemmas.{range_cut, range_whole}
 use Rattle.http_request.proofs.accept.is_json_range.Goals as goal

@@ -1,5 +1,5 @@
 use Rattle.matchit.proofs.OnLiterals.{matchit_on_literals}
-use Rattle.http_request.proofs.routes.make_shapes.Goals as goal
+use Rattle.http_request.proofs.routes.make_router.Goals as goal
 
 pub returns : goal.returns
 unfolding matchit_on_literals
