@@ -3,10 +3,7 @@ use Rattle.std.specs.Prelude.{◌≡◌, ◌<◌, ℕ, IfSome, true, false, List
 use Rattle.std.specs.Str.{is_utf8}
 use Rattle.treasury_requests.specs.declared.request.Spelled.{Spelled}
 use Rattle.treasury_requests.specs.declared.request.Request.{Request}
-use Rattle.treasury_requests.specs.declared.request.Request.TheVariants.{Branch, Commodity, Import, Dispatch}
-use Rattle.treasury_requests.specs.declared.request.Request.TheVariants.{Receive, Lock}
-use Rattle.treasury_requests.specs.declared.request.Request.TheVariants.{Close, Balance, Register, Transit, Journal}
-use Rattle.treasury_requests.specs.declared.request.Request.TheVariants.{Branches, Commodities, Accounts, Transfers}
+use Rattle.treasury_requests.specs.declared.request.Request.TheVariants.{Import}
 use Rattle.treasury_requests.specs.Request.{is_report, is_on_a_book}
 use Rattle.treasury_client.specs.declared.call.Form.{Form}
 use Rattle.treasury_client.specs.declared.call.Form.TheVariants.{Text, Json}

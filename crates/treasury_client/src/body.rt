@@ -1,21 +1,22 @@
 //! A request as JSON: the body of a call.
 
-ghost use Rattle.std.specs.Prelude.{◌≡◌, ◌⊎◌, Some, Err, true, false, codes, IfOk, IfErr, OnOk, string_bytes};
+ghost use Rattle.std.specs.Prelude.{◌≡◌, ◌≢◌, ◌⊎◌, Some, Err, codes, IfOk, IfErr, IfSome, OnOk, string_bytes};
+ghost use Rattle.std.specs.Prelude.{option_map, false};
 ghost use Rattle.std.specs.Str.{is_utf8};
 ghost use Rattle.serde_json.specs.View.{members_view};
-ghost use Rattle.journal_lines.specs.Date.{IsDayNumber};
-ghost use Rattle.treasury_requests.specs.Request.{spelled, is_report, HasDayNumbers};
-ghost use Rattle.treasury_requests.specs.declared.request.Request.TheVariants.{Dispatch, Receive, Close, Register};
+ghost use Rattle.journal_lines.specs.Date.{IsDayNumber, printed_date};
+ghost use Rattle.treasury_requests.specs.Words.{key_name};
+ghost use Rattle.treasury_requests.specs.Request.{spelled, given_of, HasDayNumbers};
 ghost use Rattle.treasury_client.specs.Sending.{IsSendable, HasText};
-ghost use Rattle.treasury_client.specs.Parts.{with_text, with_day_key, with_optional, with_part_keys, with_request};
-ghost use Rattle.treasury_client.specs.Parts.{with_word, with_branch_key, with_dry_run, with_if_entries, with_terms};
+ghost use Rattle.treasury_client.specs.Parts.{with_text, with_optional, with_keys, with_day_key, with_request};
+ghost use Rattle.treasury_client.specs.Parts.{with_dry_run, with_if_entries, with_terms};
 
 use itoa::Buffer;
 use journal_lines::print_date;
 use money_core::{Cause, Day, Text};
 use serde_json::{Map, Value, put};
 use std::alloc::Global;
-use treasury_requests::{Bytes, Request, Spelled, Terms, WrittenPart};
+use treasury_requests::{Bytes, Key, Request, Spelled, Terms};
 
 /// The members of a JSON object.
 type Members = Map<String, Value>;
@@ -31,20 +32,59 @@ fn put_text(members: &mut Members, alloc: Global, key: &str, text: &str) -> Resu
     Ok(())
 }
 
-/// Puts a text at a key, if there is one.
-fn put_optional(
-    members: &mut Members,
-    alloc: Global,
-    key: &str,
-    text: &Option<Text>,
-) -> Result<(), Cause>
-    ensures ok { OnOk result (members_view members.new.entries
-        ≡ with_optional key.now text.now (members_view members.old.entries)) }
-    ensures memory { IfErr result (λ cause. cause ≡ Cause.OutOfMemory) }
+/// The text of its own that a request has at a key. A day is printed, and a journal may be none.
+fn text_of(request: &Request, key: Key) -> Option<&Text>
+    ensures { key ≢ Key.Day → key ≢ Key.Journal
+        → option_map (λ text. text.now) result ≡ given_of request.now key }
 {
-    match text {
-        Some(text) => put_text(members, alloc, key, text.as_str()),
-        None => Ok(()),
+    match (request, key) {
+        (Request::Branch { name }, Key::Name) => Some(name),
+        (Request::Commodity { sample }, Key::Sample) => Some(sample),
+        (Request::Import { branch, .. }, Key::Branch) => Some(branch),
+        (Request::Dispatch { id, .. }, Key::Id) => Some(id),
+        (Request::Dispatch { from, .. }, Key::From) => Some(from),
+        (Request::Dispatch { to, .. }, Key::To) => Some(to),
+        (Request::Dispatch { amount, .. }, Key::Amount) => Some(amount),
+        (Request::Dispatch { account, .. }, Key::Account) => Some(account),
+        (Request::Receive { id, .. }, Key::Id) => Some(id),
+        (Request::Receive { branch, .. }, Key::Branch) => Some(branch),
+        (Request::Receive { account, .. }, Key::Account) => Some(account),
+        (Request::Receive { part, .. }, Key::Part) => match part {
+            Some(part) => Some(&part.key),
+            None => None,
+        },
+        (Request::Receive { part, .. }, Key::Amount) => match part {
+            Some(part) => Some(&part.amount),
+            None => None,
+        },
+        (Request::Lock { branch, .. }, Key::Branch) => Some(branch),
+        (Request::Close { branch, .. }, Key::Branch) => Some(branch),
+        (Request::Close { accounts, .. }, Key::Accounts) => accounts.as_ref(),
+        (Request::Close { into, .. }, Key::Into) => into.as_ref(),
+        (Request::Balance { branch, .. }, Key::Branch) => Some(branch),
+        (Request::Register { branch, .. }, Key::Branch) => Some(branch),
+        (Request::Register { account, .. }, Key::Account) => Some(account),
+        (Request::Register { tag, .. }, Key::Tag) => tag.as_ref(),
+        (Request::Journal { branch }, Key::Branch) => Some(branch),
+        (Request::Accounts { branch }, Key::Branch) => Some(branch),
+        _ => None,
+    }
+}
+
+/// The day that a request has.
+fn day_of(request: &Request) -> Option<Day>
+    ensures value { option_map printed_date result ≡ given_of request.now Key.Day }
+    ensures range { HasDayNumbers request.now → IfSome result IsDayNumber }
+{
+    match request {
+        Request::Dispatch { day, .. } => Some(*day),
+        Request::Receive { day, .. } => Some(*day),
+        Request::Lock { day, .. } => Some(*day),
+        Request::Close { day, .. } => Some(*day),
+        Request::Balance { day, .. } => Some(*day),
+        Request::Transit { day } => Some(*day),
+        Request::Transfers { day } => Some(*day),
+        _ => None,
     }
 }
 
@@ -76,153 +116,50 @@ fn put_journal(members: &mut Members, alloc: Global, journal: &Bytes) -> Result<
     }
 }
 
-/// Puts the key and the amount of a part, if there is one.
-fn put_part(members: &mut Members, alloc: Global, part: &Option<WrittenPart>) -> Result<(), Cause>
-    ensures ok { OnOk result (members_view members.new.entries
-        ≡ with_part_keys part.now (members_view members.old.entries)) }
-    ensures memory { IfErr result (λ cause. cause ≡ Cause.OutOfMemory) }
-{
-    match part {
-        Some(part) => {
-            put_text(members, alloc, "part", part.key.as_str())?;
-            put_text(members, alloc, "amount", part.amount.as_str())
-        }
-        None => Ok(()),
-    }
-}
-
-/// Puts the word and the values of a dispatch.
-fn put_dispatch(
-    members: &mut Members,
-    alloc: Global,
-    id: &Text,
-    from: &Text,
-    to: &Text,
-    day: Day,
-    amount: &Text,
-    account: &Text,
-) -> Result<(), Cause>
-    requires { IsDayNumber day }
-    ensures ok { OnOk result (members_view members.new.entries
-        ≡ with_request (Dispatch id.now from.now to.now day amount.now account.now)
-        (members_view members.old.entries)) }
-    ensures memory { IfErr result (λ cause. cause ≡ Cause.OutOfMemory) }
-{
-    put_text(members, alloc, "do", "dispatch")?;
-    put_text(members, alloc, "id", id.as_str())?;
-    put_text(members, alloc, "from", from.as_str())?;
-    put_text(members, alloc, "to", to.as_str())?;
-    put_day(members, alloc, day)?;
-    put_text(members, alloc, "amount", amount.as_str())?;
-    put_text(members, alloc, "account", account.as_str())
-}
-
-/// Puts the word and the values of a receipt.
-fn put_receive(
-    members: &mut Members,
-    alloc: Global,
-    id: &Text,
-    branch: &Text,
-    day: Day,
-    account: &Text,
-    part: &Option<WrittenPart>,
-) -> Result<(), Cause>
-    requires { IsDayNumber day }
-    ensures ok { OnOk result (members_view members.new.entries
-        ≡ with_request (Receive id.now branch.now day account.now part.now) (members_view members.old.entries)) }
-    ensures memory { IfErr result (λ cause. cause ≡ Cause.OutOfMemory) }
-{
-    put_text(members, alloc, "do", "receive")?;
-    put_text(members, alloc, "id", id.as_str())?;
-    put_text(members, alloc, "branch", branch.as_str())?;
-    put_day(members, alloc, day)?;
-    put_text(members, alloc, "account", account.as_str())?;
-    put_part(members, alloc, part)
-}
-
-/// Puts the word and the values of a closing.
-fn put_close(
-    members: &mut Members,
-    alloc: Global,
-    branch: &Text,
-    day: Day,
-    accounts: &Option<Text>,
-    into: &Option<Text>,
-) -> Result<(), Cause>
-    requires { IsDayNumber day }
-    ensures ok { OnOk result (members_view members.new.entries
-        ≡ with_request (Close branch.now day accounts.now into.now) (members_view members.old.entries)) }
-    ensures memory { IfErr result (λ cause. cause ≡ Cause.OutOfMemory) }
-{
-    put_text(members, alloc, "do", "close")?;
-    put_text(members, alloc, "branch", branch.as_str())?;
-    put_day(members, alloc, day)?;
-    put_optional(members, alloc, "accounts", accounts)?;
-    put_optional(members, alloc, "into", into)
-}
-
-/// Puts the word and the values of a register.
-fn put_register(
-    members: &mut Members,
-    alloc: Global,
-    branch: &Text,
-    account: &Text,
-    tag: &Option<Text>,
-) -> Result<(), Cause>
-    ensures ok { OnOk result (members_view members.new.entries
-        ≡ with_request (Register branch.now account.now tag.now) (members_view members.old.entries)) }
-    ensures memory { IfErr result (λ cause. cause ≡ Cause.OutOfMemory) }
-{
-    put_text(members, alloc, "do", "register")?;
-    put_text(members, alloc, "branch", branch.as_str())?;
-    put_text(members, alloc, "account", account.as_str())?;
-    put_optional(members, alloc, "tag", tag)
-}
-
-/// Puts the word, and the branch.
-fn put_branch(members: &mut Members, alloc: Global, word: &str, branch: &Text) -> Result<(), Cause>
-    ensures ok { OnOk result (members_view members.new.entries
-        ≡ with_branch_key branch.now (with_word word.now (members_view members.old.entries))) }
-    ensures memory { IfErr result (λ cause. cause ≡ Cause.OutOfMemory) }
-{
-    put_text(members, alloc, "do", word)?;
-    put_text(members, alloc, "branch", branch.as_str())
-}
-
-/// Puts the word and the values of a report.
-fn put_report(members: &mut Members, alloc: Global, request: &Request) -> Result<(), Cause>
+/// Puts what a request has at a key, if it has that: 1 where that is a journal that is not UTF-8.
+fn put_key(members: &mut Members, alloc: Global, request: &Request, key: Key) -> Result<(), Cause>
     requires { HasDayNumbers request.now }
-    ensures ok { is_report request.now ≡ true → OnOk result (members_view members.new.entries
-        ≡ with_request request.now (members_view members.old.entries)) }
-    ensures memory { IfErr result (λ cause. cause ≡ Cause.OutOfMemory) }
+    ensures ok { OnOk result (members_view members.new.entries
+        ≡ with_optional (key_name key) (given_of request.now key) (members_view members.old.entries)) }
+    ensures text { result ≡ Err Cause.Utf8 → HasText request.now → ⊥ }
+    ensures causes { IfErr result (λ cause. (cause ≡ Cause.Utf8) ⊎ (cause ≡ Cause.OutOfMemory)) }
 {
-    match request {
-        Request::Balance { branch, day } => {
-            put_branch(members, alloc, "balance", branch)?;
-            put_day(members, alloc, *day)
-        }
-        Request::Register {
-            branch,
-            account,
-            tag,
-        } => put_register(members, alloc, branch, account, tag),
-        Request::Transit { day } => {
-            put_text(members, alloc, "do", "transit")?;
-            put_day(members, alloc, *day)
-        }
-        Request::Journal { branch } => put_branch(members, alloc, "journal", branch),
-        Request::Branches => put_text(members, alloc, "do", "branches"),
-        Request::Commodities => put_text(members, alloc, "do", "commodities"),
-        Request::Accounts { branch } => put_branch(members, alloc, "accounts", branch),
-        Request::Transfers { day } => {
-            put_text(members, alloc, "do", "transfers")?;
-            put_day(members, alloc, *day)
-        }
-        _ => Ok(()),
+    match key {
+        Key::Day => match day_of(request) {
+            Some(day) => put_day(members, alloc, day),
+            None => Ok(()),
+        },
+        Key::Journal => match request {
+            Request::Import { journal, .. } => put_journal(members, alloc, journal),
+            _ => Ok(()),
+        },
+        _ => match text_of(request, key) {
+            Some(text) => put_text(members, alloc, key.name(), text.as_str()),
+            None => Ok(()),
+        },
     }
 }
 
-/// Puts the word and the values of a request. Answers 1 where its journal is not UTF-8.
+/// Puts what a request has at these keys. Answers 1 where its journal is not UTF-8.
+fn put_keys(
+    members: &mut Members,
+    alloc: Global,
+    request: &Request,
+    keys: &[Key],
+) -> Result<(), Cause>
+    requires { HasDayNumbers request.now }
+    ensures ok { OnOk result (members_view members.new.entries
+        ≡ with_keys (given_of request.now) keys.now (members_view members.old.entries)) }
+    ensures text { result ≡ Err Cause.Utf8 → HasText request.now → ⊥ }
+    ensures causes { IfErr result (λ cause. (cause ≡ Cause.Utf8) ⊎ (cause ≡ Cause.OutOfMemory)) }
+{
+    'keys: for key in keys {
+        put_key(members, alloc, request, *key)?;
+    }
+    Ok(())
+}
+
+/// Puts the word of a request, and what it has at the keys of its row. Answers 1 where its journal is not UTF-8.
 fn put_request(members: &mut Members, alloc: Global, request: &Request) -> Result<(), Cause>
     requires { HasDayNumbers request.now }
     ensures ok { OnOk result (members_view members.new.entries
@@ -230,46 +167,10 @@ fn put_request(members: &mut Members, alloc: Global, request: &Request) -> Resul
     ensures text { result ≡ Err Cause.Utf8 → HasText request.now → ⊥ }
     ensures causes { IfErr result (λ cause. (cause ≡ Cause.Utf8) ⊎ (cause ≡ Cause.OutOfMemory)) }
 {
-    match request {
-        Request::Branch { name } => {
-            put_text(members, alloc, "do", "branch")?;
-            put_text(members, alloc, "name", name.as_str())
-        }
-        Request::Commodity { sample } => {
-            put_text(members, alloc, "do", "commodity")?;
-            put_text(members, alloc, "sample", sample.as_str())
-        }
-        Request::Import { branch, journal } => {
-            put_branch(members, alloc, "import", branch)?;
-            put_journal(members, alloc, journal)
-        }
-        Request::Dispatch {
-            id,
-            from,
-            to,
-            day,
-            amount,
-            account,
-        } => put_dispatch(members, alloc, id, from, to, *day, amount, account),
-        Request::Receive {
-            id,
-            branch,
-            day,
-            account,
-            part,
-        } => put_receive(members, alloc, id, branch, *day, account, part),
-        Request::Lock { branch, day } => {
-            put_branch(members, alloc, "lock", branch)?;
-            put_day(members, alloc, *day)
-        }
-        Request::Close {
-            branch,
-            day,
-            accounts,
-            into,
-        } => put_close(members, alloc, branch, *day, accounts, into),
-        _ => put_report(members, alloc, request),
-    }
+    let row = request.word().row();
+    put_text(members, alloc, "do", row.name)?;
+    put_keys(members, alloc, request, row.needed)?;
+    put_keys(members, alloc, request, row.further)
 }
 
 /// Puts the key of a dry run, where it is one.

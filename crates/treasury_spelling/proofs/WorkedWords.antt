@@ -6,7 +6,8 @@ use Rattle.clap.specs.declared.error.kind.ErrorKind.TheVariants.{DisplayVersion}
 use Rattle.clap.specs.declared.error.kind.ErrorKind.TheVariants.{DisplayHelpOnMissingArgumentOrSubcommand}
 use Rattle.clap.proofs.OnLiterals.{clap_on_literals}
 use Rattle.clap.specs.Walk.{first_of}
-use Rattle.treasury_requests.specs.declared.request.Request.TheVariants.{Branch, Journal, Branches}
+use Rattle.journal_lines.specs.DateReading.{date_of}
+use Rattle.treasury_requests.specs.declared.request.Request.TheVariants.{Branch, Balance, Journal, Branches}
 use Rattle.treasury_spelling.specs.Words.{objections, named}
 use Rattle.treasury_spelling.specs.Spelling.{request_in, terms_in, is_explained, number_spelled}
 
@@ -55,6 +56,19 @@ unfolding clap_on_literals objections named
 version_is_asked_for name = refl
 
 -- words over a database file
+
+-- a balance without a day is that through the last day, and no other report may lack its day
+pub balance_of_all_days : (name : List ℕ)
+    → option_and_then (λ p. request_in p.0 p.1)
+    (named (name ∷ codes "balance" ∷ codes "--db=t.db" ∷ codes "--branch=north" ∷ []))
+    ≡ option_map (Balance (codes "north")) (date_of (codes "9999-12-31"))
+unfolding clap_on_literals named
+balance_of_all_days name = refl
+
+pub transit_of_no_day : (name : List ℕ)
+    → objections (name ∷ codes "transit" ∷ codes "--db=t.db" ∷ []) ≡ MissingRequiredArgument ∷ []
+unfolding clap_on_literals objections named
+transit_of_no_day name = refl
 
 pub balance_is_taken : (name : List ℕ)
     → objections (name ∷ codes "balance" ∷ codes "--db" ∷ codes "t.db" ∷ codes "--branch" ∷ codes "north"

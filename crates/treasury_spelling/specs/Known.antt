@@ -1,26 +1,23 @@
 -- The words that the program knows (own rule; docs/RULES.md, "The program"), as `clap` reads them.
-use Rattle.std.specs.Prelude.{ℕ, pos, true, false, codes, List, [], ◌∷◌, ◌++◌, Some}
+use Rattle.std.specs.Prelude.{ℕ, ℤ, pos, Bool, true, false, ◌&&◌, not, codes, List, [], ◌∷◌, ◌++◌, map}
+use Rattle.std.specs.Prelude.{Option, Some, None, is_some}
 use Rattle.clap.specs.Walk.{Rule}
 use Rattle.clap.specs.Simple.{App, Shape, new_rule, new_shape}
 use Rattle.clap.specs.declared.builder.value_parser.ValueParser.TheVariants.{Signed}
 use Rattle.clap.specs.declared.builder.action.ArgAction.TheVariants.{SetTrue}
+use Rattle.treasury_requests.specs.declared.words.Word.{Word}
+use Rattle.treasury_requests.specs.declared.words.Word.TheVariants as word
+use Rattle.treasury_requests.specs.declared.words.Key.{Key}
+use Rattle.treasury_requests.specs.declared.words.Key.TheVariants as key
+use Rattle.treasury_requests.specs.Words.{key_name, word_name, needed, further}
 
--- an option that may be given, `--NAME VALUE`; one that has to be; and a value that stands by itself and has to be
--- given
+-- an option that may be given, `--NAME VALUE`
 abbrev pub optional : List ℕ → Rule
 optional name = record (new_rule name) { long = Some name; value_names = 1 }
 
--- an option that has to be given
-abbrev pub option : List ℕ → Rule
-option name = record (optional name) { required = true }
-
--- an option with a whole number up to the most, and one that has to be given
-abbrev pub optional_number : List ℕ → ℕ → Rule
-optional_number name most = record (optional name) { parser = Some (Signed (pos 0) (pos most)) }
-
--- an option with a whole number up to the most that has to be given
-abbrev pub number : List ℕ → ℕ → Rule
-number name most = record (option name) { parser = Some (Signed (pos 0) (pos most)) }
+-- an option that may be given, with a whole number from the least to the most
+abbrev pub number : List ℕ → ℤ → ℤ → Rule
+number name least most = record (optional name) { parser = Some (Signed least most) }
 
 -- a value without an option's name that has to be given
 abbrev pub operand : List ℕ → Rule
@@ -30,86 +27,53 @@ operand name = record (new_rule name) { value_names = 1; required = true }
 abbrev pub flag : List ℕ → Rule
 flag name = record (new_rule name) { long = Some name; action = Some SetTrue }
 
--- a word over a database file alone: `--db FILE`, and what else it takes
-abbrev pub word : List ℕ → List Rule → Shape
-word name rules = record (new_shape name) { rules = option (codes "db") ∷ rules }
+-- what a word takes for a value that is left out: a balance without a day is that through the last day there is
+abbrev pub if_left_out : Word → Key → Option (List ℕ)
+if_left_out word.Balance key.Day = Some (codes "9999-12-31")
+if_left_out w k = None
 
--- the port of a running service, `--at PORT`
-abbrev pub at : Rule
-at = record (optional (codes "at")) { parser = Some (Signed (pos 1) (pos 65535)) }
+-- how a key of a word's request is given: a dry run by a flag, a new name, a sample and a journal by a value without
+-- an option's name, and the others by options; such an option is needed if the request needs the key, and nothing is
+-- taken for it
+abbrev pub argument : Word → Bool → Key → Rule
+argument w is_needed key.DryRun = flag (key_name key.DryRun)
+argument w is_needed key.Name = operand (key_name key.Name)
+argument w is_needed key.Sample = operand (key_name key.Sample)
+argument w is_needed key.Journal = operand (key_name key.Journal)
+argument w is_needed k = record (optional (key_name k)) { required = is_needed && not (is_some (if_left_out w k)) }
 
 -- a word over a database file, or through the service that has it: `--db FILE` or `--at PORT`, and what else it takes
 abbrev pub placed_shape : List ℕ → List Rule → Shape
-placed_shape name rules = record (new_shape name) { rules = optional (codes "db") ∷ at ∷ rules }
+placed_shape name rules = record (new_shape name) {
+  rules = optional (codes "db") ∷ number (codes "at") (pos 1) (pos 65535) ∷ rules;
+}
 
--- `--branch NAME`, `--day DAY`, `--account ACCOUNT`, `--id ID`
-abbrev pub branch : Rule
-branch = option (codes "branch")
+-- the word of a request: the keys that the request needs, and those that it may have
+abbrev pub request_shape : Word → Shape
+request_shape w =
+    placed_shape (word_name w) (map (argument w true) (needed w) ++ map (argument w false) (further w))
 
--- `--day DAY`
-abbrev pub day : Rule
-day = option (codes "day")
+-- a word over a database file alone: `--db FILE`, and what else it takes
+abbrev pub file_shape : List ℕ → List Rule → Shape
+file_shape name rules = record (new_shape name) {
+  rules = record (optional (codes "db")) { required = true } ∷ rules;
+}
 
--- `--account ACCOUNT`
-abbrev pub account : Rule
-account = option (codes "account")
-
--- `--id ID`
-abbrev pub id : Rule
-id = option (codes "id")
-
--- `--dry-run`, `--if-entries N`
-abbrev pub dry_run : Rule
-dry_run = flag (codes "dry-run")
-
--- `--if-entries N`
-abbrev pub if_entries : Rule
-if_entries = optional (codes "if-entries")
+-- the word that answers over HTTP: `--port PORT`, and at most `--requests N` connections
+abbrev pub serve_shape : Shape
+serve_shape = file_shape (codes "serve")
+    (record (number (codes "port") (pos 0) (pos 65535)) { required = true }
+    ∷ number (codes "requests") (pos 0) (pos 4294967295) ∷ [])
 
 -- the word that is over no file, with `--explain`
 abbrev pub run_shape : Shape
 run_shape = record (new_shape (codes "run")) { rules = flag (codes "explain") ∷ [] }
 
--- the words by which a treasury begins
-abbrev pub begins : List Shape
-begins =
-    word (codes "init") []
-    ∷ placed_shape (codes "branch") (operand (codes "name") ∷ dry_run ∷ [])
-    ∷ placed_shape (codes "branches") []
-    ∷ placed_shape (codes "commodity") (operand (codes "sample") ∷ dry_run ∷ [])
-    ∷ placed_shape (codes "commodities") []
-    ∷ []
-
--- those of every month
-abbrev pub months : List Shape
-months =
-    placed_shape (codes "import") (branch ∷ operand (codes "journal") ∷ dry_run ∷ if_entries ∷ [])
-    ∷ placed_shape (codes "accounts") (branch ∷ [])
-    ∷ placed_shape (codes "balance") (branch ∷ day ∷ [])
-    ∷ placed_shape (codes "register") (branch ∷ account ∷ optional (codes "tag") ∷ [])
-    ∷ []
-
--- those of transfers
-abbrev pub transfers : List Shape
-transfers =
-    placed_shape (codes "dispatch") (id ∷ option (codes "from") ∷ option (codes "to") ∷ day ∷ option (codes "amount")
-    ∷ account ∷ dry_run ∷ if_entries ∷ [])
-    ∷ placed_shape (codes "receive") (id ∷ branch ∷ day ∷ account ∷ optional (codes "part") ∷ optional (codes "amount")
-    ∷ dry_run ∷ if_entries ∷ [])
-    ∷ placed_shape (codes "transfers") (day ∷ [])
-    ∷ placed_shape (codes "transit") (day ∷ [])
-    ∷ []
-
--- those of a month's or a year's end, the one that stays, and the one that is over no file
-abbrev pub ends : List Shape
-ends =
-    placed_shape (codes "lock") (branch ∷ day ∷ dry_run ∷ if_entries ∷ [])
-    ∷ placed_shape (codes "close") (branch ∷ day ∷ optional (codes "accounts") ∷ optional (codes "into") ∷ dry_run
-    ∷ if_entries ∷ [])
-    ∷ placed_shape (codes "journal") (branch ∷ [])
-    ∷ word (codes "serve") (number (codes "port") 65535 ∷ optional_number (codes "requests") 4294967295 ∷ [])
-    ∷ run_shape
-    ∷ []
+-- the words of requests in the order of a treasurer's year
+abbrev pub year : List Word
+year = word.Branch ∷ word.Branches ∷ word.Commodity ∷ word.Commodities ∷ word.Import ∷ word.Accounts ∷ word.Balance
+    ∷ word.Register ∷ word.Dispatch ∷ word.Receive ∷ word.Transfers ∷ word.Transit ∷ word.Lock ∷ word.Close
+    ∷ word.Journal ∷ []
 
 -- the words that the program knows: it has a version, and one of its words has to be given
 abbrev pub known : App
@@ -120,5 +84,5 @@ known = record {
     subcommand_required = true;
     is_leaf = false;
   };
-  subs = begins ++ months ++ transfers ++ ends;
+  subs = file_shape (codes "init") [] ∷ map request_shape year ++ serve_shape ∷ run_shape ∷ [];
 }

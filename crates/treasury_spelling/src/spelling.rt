@@ -1,20 +1,20 @@
 //! What a word over a file asks for, by its values.
 
-ghost use Rattle.std.specs.Prelude.{◌≡◌, codes, None, option_map, option_and_then, option_copied, IfSome};
+ghost use Rattle.std.specs.Prelude.{◌≡◌, ◌⊎◌, codes, Some, None, Err, option_map, option_and_then, IfOk, IfErr, IfSome};
+ghost use Rattle.std.specs.Option.{IsSome};
 ghost use Rattle.clap.specs.Matches.{found_of};
 ghost use Rattle.clap.specs.Walk.{first_of, rows_of};
-ghost use Rattle.journal_lines.specs.Date.{IsDayNumber};
-ghost use Rattle.treasury_requests.specs.Form.{form_view, part_view};
-ghost use Rattle.treasury_requests.specs.Request.{HasDayNumbers};
-ghost use Rattle.treasury_spelling.specs.Spelling.{day_in, dispatch_in, part_in, receive_in, list_in, report_spelled};
-ghost use Rattle.treasury_spelling.specs.Spelling.{request_in, request_by, terms_in, says_no_count};
-ghost use Rattle.treasury_spelling.specs.Spelling.{is_set, is_explained, HasPort, LacksPort};
 ghost use Rattle.journal_lines.specs.Number.{entry_count};
+ghost use Rattle.treasury_requests.specs.Request.{HasDayNumbers};
+ghost use Rattle.treasury_spelling.specs.Spelling.{given_by, request_in, terms_in, says_no_count};
+ghost use Rattle.treasury_spelling.specs.Known.{if_left_out};
+ghost use Rattle.treasury_spelling.specs.Spelling.{is_set, is_explained, HasPort, LacksPort};
 
 use clap::ArgMatches;
 use journal_lines::{read_count, read_date};
-use money_core::Day;
-use treasury_requests::{Form, PartForm, Terms};
+use money_core::Cause;
+use std::alloc::Global;
+use treasury_requests::{Fields, Key, Request, Terms, Word, lacks, request_by, word_named};
 
 /// The value of that name.
 pub fn value_of<'a>(values: &ArgMatches<'a>, name: &str) -> Option<&'a str>
@@ -83,178 +83,80 @@ pub fn is_explained(values: &ArgMatches<'_>) -> bool
     is_set(values, "explain")
 }
 
-/// The value that is a day.
-fn day_of(values: &ArgMatches<'_>) -> Option<Day>
-    ensures value { result ≡ day_in (rows_of (found_of values.now)) }
-    ensures range { IfSome result IsDayNumber }
+/// What a word takes for a value that is left out: a balance without a day is that through the last day there is.
+pub fn if_left_out(word: Word, key: Key) -> Option<&'static str>
+    ensures { option_map (λ s. s.now) result ≡ if_left_out word key }
 {
-    let text = value_of(values, "day")?;
-    read_date(text.as_bytes())
-}
-
-/// What `dispatch` asks for.
-fn dispatch_of<'a>(values: &ArgMatches<'a>) -> Option<Form<'a>>
-    ensures value { option_map form_view result ≡ dispatch_in (rows_of (found_of values.now)) }
-    ensures days { IfSome result (λ form. HasDayNumbers (form_view form)) }
-{
-    let id = value_of(values, "id")?;
-    let from = value_of(values, "from")?;
-    let to = value_of(values, "to")?;
-    let day = day_of(values)?;
-    let amount = value_of(values, "amount")?;
-    let account = value_of(values, "account")?;
-    Some(Form::Dispatch {
-        id,
-        from,
-        to,
-        day,
-        amount,
-        account,
-    })
-}
-
-/// The part that `receive` asks for, if there is one: its key and its amount are both given, or neither.
-fn part_of<'a>(values: &ArgMatches<'a>) -> Option<Option<PartForm<'a>>>
-    ensures { option_map (option_map part_view) result ≡ part_in (rows_of (found_of values.now)) }
-{
-    let key = value_of(values, "part");
-    let amount = value_of(values, "amount");
-    match key {
-        Some(key) => match amount {
-            Some(amount) => Some(Some(PartForm { key, amount })),
-            None => None,
-        },
-        None => match amount {
-            Some(_) => None,
-            None => Some(None),
-        },
+    match (word, key) {
+        (Word::Balance, Key::Day) => Some("9999-12-31"),
+        _ => None,
     }
 }
 
-/// What `receive` asks for.
-fn receive_of<'a>(values: &ArgMatches<'a>) -> Option<Form<'a>>
-    ensures value { option_map form_view result ≡ receive_in (rows_of (found_of values.now)) }
-    ensures days { IfSome result (λ form. HasDayNumbers (form_view form)) }
-{
-    let id = value_of(values, "id")?;
-    let branch = value_of(values, "branch")?;
-    let day = day_of(values)?;
-    let account = value_of(values, "account")?;
-    let part = part_of(values)?;
-    Some(Form::Receive {
-        id,
-        branch,
-        day,
-        account,
-        part,
-    })
+/// The values of a word, as what is given at the keys of its request.
+#[derive(Drop)]
+struct Values<'m, 'a> {
+    word: Word,
+    values: &'m ArgMatches<'a>,
 }
 
-/// What the word of a list of what there is asks for.
-fn list_of<'a>(word: &str, values: &ArgMatches<'a>) -> Option<Form<'a>>
-    ensures value { option_map form_view result ≡ list_in word.now (rows_of (found_of values.now)) }
-    ensures days { IfSome result (λ form. HasDayNumbers (form_view form)) }
-{
-    if word == "branches" {
-        Some(Form::Branches)
-    } else if word == "commodities" {
-        Some(Form::Commodities)
-    } else if word == "accounts" {
-        let branch = value_of(values, "branch")?;
-        Some(Form::Accounts { branch })
-    } else if word == "transfers" {
-        let day = day_of(values)?;
-        Some(Form::Transfers { day })
-    } else {
-        None
+impl Fields for Values<'_, '_> {
+    ghost given = { λ v. given_by v.word (rows_of (found_of v.values.now)) };
+
+    /// The value of that name. A journal stands in a file: the value is the file's name.
+    fn text(&self, key: Key) -> Option<&str> {
+        if matches!(key, Key::Journal) {
+            return None;
+        }
+        match value_of(self.values, key.name()) {
+            Some(text) => Some(text),
+            None => if_left_out(self.word, key),
+        }
     }
 }
 
-/// What the word of a report asks for.
-fn report_of<'a>(word: &str, values: &ArgMatches<'a>) -> Option<Form<'a>>
-    ensures value { option_map form_view result ≡ report_spelled word.now (rows_of (found_of values.now)) }
-    ensures days { IfSome result (λ form. HasDayNumbers (form_view form)) }
-{
-    if word == "balance" {
-        let branch = value_of(values, "branch")?;
-        let day = day_of(values)?;
-        Some(Form::Balance { branch, day })
-    } else if word == "register" {
-        let branch = value_of(values, "branch")?;
-        let account = value_of(values, "account")?;
-        let tag = value_of(values, "tag");
-        Some(Form::Register {
-            branch,
-            account,
-            tag,
-        })
-    } else if word == "transit" {
-        let day = day_of(values)?;
-        Some(Form::Transit { day })
-    } else if word == "journal" {
-        let branch = value_of(values, "branch")?;
-        Some(Form::Journal { branch })
-    } else {
-        list_of(word, values)
+/// Whether a text is given for the day, and is no date.
+fn says_no_date(values: &ArgMatches<'_>) -> bool {
+    match value_of(values, "day") {
+        Some(text) => read_date(text.as_bytes()).is_none(),
+        None => false,
     }
 }
 
 /// Why a word asks for nothing, by its values.
 pub fn fault_of(word: &str, values: &ArgMatches<'_>) -> &'static str {
-    if word != "import" && day_of(values).is_none() {
+    let has_part = value_of(values, "part").is_some();
+    let has_amount = value_of(values, "amount").is_some();
+    if says_no_date(values) {
         "the day is not a date; dates are written as 2024-12-31"
-    } else if word == "receive" && part_of(values).is_none() {
+    } else if word == "receive" && has_part != has_amount {
         "a part needs its key and its amount; only one of them is given"
     } else {
         "--if-entries is a number of 1 to 5 digits"
     }
 }
 
-/// What the word of a command or a report asks for by its values other than its terms.
-fn form_by<'a>(word: &str, values: &ArgMatches<'a>) -> Option<Form<'a>>
-    ensures value { option_map form_view result ≡ request_by word.now (rows_of (found_of values.now)) }
-    ensures days { IfSome result (λ form. HasDayNumbers (form_view form)) }
-{
-    if word == "branch" {
-        let name = value_of(values, "name")?;
-        Some(Form::Branch { name })
-    } else if word == "commodity" {
-        let sample = value_of(values, "sample")?;
-        Some(Form::Commodity { sample })
-    } else if word == "dispatch" {
-        dispatch_of(values)
-    } else if word == "receive" {
-        receive_of(values)
-    } else if word == "lock" {
-        let branch = value_of(values, "branch")?;
-        let day = day_of(values)?;
-        Some(Form::Lock { branch, day })
-    } else if word == "close" {
-        let branch = value_of(values, "branch")?;
-        let day = day_of(values)?;
-        let accounts = value_of(values, "accounts");
-        let into = value_of(values, "into");
-        Some(Form::Close {
-            branch,
-            day,
-            accounts,
-            into,
-        })
-    } else {
-        report_of(word, values)
-    }
-}
-
-/// What the word of a command or a report asks for, `init` and `import` aside: the request that a line of `run` spells
-/// whose keys have these values. Nothing where a value is missing, a day is no date, of a part only the key or the
-/// amount is given, or a count of entries is none.
-pub fn form_of_word<'a>(word: &str, values: &ArgMatches<'a>) -> Option<Form<'a>>
-    ensures value { option_map form_view result ≡ request_in word.now (rows_of (found_of values.now)) }
-    ensures days { IfSome result (λ form. HasDayNumbers (form_view form)) }
+/// The request of the word of a command or a report, `init` and `import` aside: the one that a line of `run` spells
+/// whose keys have these values.
+///
+/// 44 comes where there is none: a value is missing, a day is no date, of a part only the key or the amount is given,
+/// or a count of entries is none. After that, 40 comes where there is no memory.
+pub fn request_of_word(alloc: Global, word: &str, values: &ArgMatches<'_>) -> Result<Request, Cause>
+    ensures ok { IfOk result (λ request. request_in word.now (rows_of (found_of values.now)) ≡ Some request) }
+    ensures days { IfOk result HasDayNumbers }
+    ensures refused { result ≡ Err Cause.Request → request_in word.now (rows_of (found_of values.now)) ≡ None }
+    ensures memory { result ≡ Err Cause.OutOfMemory → IsSome (request_in word.now (rows_of (found_of values.now))) }
+    ensures causes { IfErr result (λ cause. (cause ≡ Cause.Request) ⊎ (cause ≡ Cause.OutOfMemory)) }
 {
     if says_no_count(values) {
-        None
-    } else {
-        form_by(word, values)
+        return Err(Cause::Request);
     }
+    let Some(word) = word_named(word) else {
+        return Err(Cause::Request);
+    };
+    let fields = Values { word, values };
+    if lacks(word, &fields) {
+        return Err(Cause::Request);
+    }
+    request_by(alloc, word, &fields)
 }
