@@ -2,6 +2,7 @@
 pub mod Said
 pub mod Sentence
 pub mod RequestFaults
+pub mod Pieces
 pub mod Parts
 pub mod Printed
 pub mod Unasked

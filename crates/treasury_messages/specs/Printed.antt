@@ -1,7 +1,7 @@
 -- Messages as they are printed, a line for each (own rule; docs/RULES.md, "Explanations").
 use Rattle.std.specs.Prelude.{◌≡◌, ℕ, List, [], ◌∷◌, ◌++◌, take, codes}
 use Rattle.std.specs.List.{flat_map}
-use Rattle.treasury_messages.specs.declared.message.Part.{Part}
+use Rattle.treasury_messages.specs.declared.part.Part.{Part}
 use Rattle.treasury_messages.specs.Said.{Said, beginning}
 use Rattle.treasury_messages.specs.Parts.{part_values, part_text}
 

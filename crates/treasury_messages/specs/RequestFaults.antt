@@ -1,8 +1,8 @@
 -- What is said of a text that is no request (own rule; docs/RULES.md, "Explanations").
 use Rattle.std.specs.Prelude.{◌≡◌, ℕ, ◌==◌, true, false, if◌then◌else◌, List, [], ◌∷◌, ◌++◌, codes, decimal, map}
 use Rattle.std.specs.Prelude.{Option, Some, None}
-use Rattle.treasury_requests.specs.declared.fault.words.Word.{Word}
-use Rattle.treasury_requests.specs.declared.fault.words.Key.TheVariants as key
+use Rattle.treasury_requests.specs.declared.words.Word.{Word}
+use Rattle.treasury_requests.specs.declared.words.Key.TheVariants as key
 use Rattle.treasury_requests.specs.declared.fault.Kind.{Kind}
 use Rattle.treasury_requests.specs.declared.fault.Kind.TheVariants as kind
 use Rattle.treasury_requests.specs.declared.fault.RequestFault.{RequestFault}

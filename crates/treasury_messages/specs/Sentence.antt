@@ -1,5 +1,5 @@
 -- The sentence of each refusal (own rule; docs/RULES.md, "Refusals", where they stand word for word).
-use Rattle.std.specs.Prelude.{ℕ, List, [], ◌∷◌, codes}
+use Rattle.std.specs.Prelude.{ℕ, List, [], ◌∷◌, codes, decimal}
 use Rattle.money_core.specs.declared.cause.Cause.{Cause}
 use Rattle.money_core.specs.declared.cause.Cause.TheVariants as is
 use Rattle.treasury_messages.specs.declared.kind.MessageKind.TheVariants as kind
@@ -63,3 +63,7 @@ sentence_of is.Changed = codes "the branch has another number of entries than `i
 -- the message that says it
 abbrev pub sentence_said : Cause → Said
 sentence_said cause = says kind.Sentence (sentence_of cause ∷ [])
+
+-- the same, after the file and the line that it comes from
+abbrev pub sentence_said_at : List ℕ → ℕ → Cause → Said
+sentence_said_at source line cause = says kind.Sentence (source ∷ decimal line ∷ sentence_of cause ∷ [])

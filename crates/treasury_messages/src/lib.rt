@@ -4,14 +4,17 @@
 
 mod kind;
 mod message;
+mod part;
+mod piece;
 mod printing;
 mod request_fault;
 mod sentences;
 mod unasked;
 
 pub use kind::MessageKind;
-pub use message::{Message, Piece, say};
+pub use message::{Done, Message, Messages, hint, say};
+pub use piece::Piece;
 pub use printing::push_messages;
 pub use request_fault::say_request_fault;
-pub use sentences::{say_sentence, sentence};
-pub use unasked::{explain_request, sentence_text, unasked_text};
+pub use sentences::{say_sentence, say_sentence_at, sentence};
+pub use unasked::{explain_request, sentence_text, text_of, unasked_text};

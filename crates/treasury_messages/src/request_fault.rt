@@ -1,14 +1,13 @@
 //! What is said of the fault of a text that is no request.
 
 ghost use Rattle.std.specs.Prelude.{◌≡◌, ◌++◌, [], ◌∷◌, map, OnOk};
-ghost use Rattle.std.specs.Result.{IsOkUnless};
 ghost use Rattle.treasury_requests.specs.Words.{key_name, word_name, all_words};
-ghost use Rattle.treasury_messages.specs.Said.{says};
-ghost use Rattle.treasury_messages.specs.Parts.{naming};
+ghost use Rattle.treasury_messages.specs.Said.{says, naming};
 ghost use Rattle.treasury_messages.specs.RequestFaults.{kind_text, place_values, other_said, keys_said, fault_said};
 
 use crate::kind::MessageKind;
-use crate::message::{Message, Piece, say};
+use crate::message::{Message, say};
+use crate::piece::Piece;
 use money_core::{Cause, Text};
 use treasury_requests::{Key, Kind, RequestFault, Word, all_words};
 
@@ -33,7 +32,6 @@ fn kind_text(kind: Kind) -> &'static [u8]
 /// Adds keys, each after a blank.
 fn add_keys(keys: &[Key], message: &mut Message) -> Result<(), Cause>
     ensures ok { OnOk result (message.new ≡ naming message.old (map key_name keys.now)) }
-    ensures memory { IsOkUnless result Cause.OutOfMemory }
 {
     for key in keys {
         message.add(&[Piece::Words(b" "), Piece::Text(key.name().as_bytes())])?;
@@ -44,10 +42,9 @@ fn add_keys(keys: &[Key], message: &mut Message) -> Result<(), Cause>
 /// Adds words of `do`, each after a blank.
 fn add_words(words: &[Word], message: &mut Message) -> Result<(), Cause>
     ensures ok { OnOk result (message.new ≡ naming message.old (map word_name words.now)) }
-    ensures memory { IsOkUnless result Cause.OutOfMemory }
 {
     for word in words {
-        message.add(&[Piece::Words(b" "), Piece::Text(word.name().as_bytes())])?;
+        message.add(&[Piece::Words(b" "), Piece::Text(word.row().name.as_bytes())])?;
     }
     Ok(())
 }
@@ -55,7 +52,6 @@ fn add_words(words: &[Word], message: &mut Message) -> Result<(), Cause>
 /// Adds the keys that a request may have beside those that it has to have.
 fn add_further(keys: &[Key], message: &mut Message) -> Result<(), Cause>
     ensures ok { OnOk result (message.new ≡ naming message.old (map key_name keys.now)) }
-    ensures memory { IsOkUnless result Cause.OutOfMemory }
 {
     if !keys.is_empty() {
         message.add(&[Piece::Words(b"; also:")])?;
@@ -67,38 +63,33 @@ fn add_further(keys: &[Key], message: &mut Message) -> Result<(), Cause>
 #[tactic(auto, unfolding(crate::specs::RequestFaults::keys_said))]
 fn say_keys(word: Word, out: &mut Vec<Message>) -> Result<(), Cause>
     ensures ok { OnOk result (out.new.items ≡ out.old.items ++ keys_said word ∷ []) }
-    ensures memory { IsOkUnless result Cause.OutOfMemory }
 {
     let mut message = Message::new(*out.allocator(), MessageKind::KeysOf);
-    let name = word.name().as_bytes();
+    let row = word.row();
     message.add(&[
         Piece::Words(b"keys of "),
-        Piece::Text(name),
+        Piece::Text(row.name.as_bytes()),
         Piece::Words(b": do"),
     ])?;
-    add_keys(word.needed(), &mut message)?;
-    add_further(word.further(), &mut message)?;
-    out.push(message)?;
-    Ok(())
+    add_keys(row.needed, &mut message)?;
+    add_further(row.further, &mut message)?;
+    message.say(out)
 }
 
 /// Says the words of `do` that ask for something.
 fn say_known(out: &mut Vec<Message>) -> Result<(), Cause>
     ensures ok { OnOk result
         (out.new.items ≡ out.old.items ++ says MessageKind.KnownWords (map word_name all_words) ∷ []) }
-    ensures memory { IsOkUnless result Cause.OutOfMemory }
 {
     let mut message = Message::new(*out.allocator(), MessageKind::KnownWords);
     message.add(&[Piece::Words(b"known:")])?;
     add_words(all_words(), &mut message)?;
-    out.push(message)?;
-    Ok(())
+    message.say(out)
 }
 
 /// Adds a place: a byte, and the line in which it stands unless that is the first.
 fn add_place(line: usize, byte: usize, message: &mut Message) -> Result<(), Cause>
     ensures ok { OnOk result (message.new ≡ naming message.old (place_values line byte)) }
-    ensures memory { IsOkUnless result Cause.OutOfMemory }
 {
     if line == 1 {
         message.add(&[Piece::Words(b"byte "), Piece::Number(byte)])
@@ -116,34 +107,29 @@ fn add_place(line: usize, byte: usize, message: &mut Message) -> Result<(), Caus
 fn say_json(line: usize, byte: usize, out: &mut Vec<Message>) -> Result<(), Cause>
     ensures ok { OnOk result
         (out.new.items ≡ out.old.items ++ says MessageKind.NotJson (place_values line byte) ∷ []) }
-    ensures memory { IsOkUnless result Cause.OutOfMemory }
 {
     let mut message = Message::new(*out.allocator(), MessageKind::NotJson);
     message.add(&[Piece::Words(b"no JSON from ")])?;
     add_place(line, byte, &mut message)?;
     message.add(&[Piece::Words(b" on")])?;
-    out.push(message)?;
-    Ok(())
+    message.say(out)
 }
 
 /// Says that the text ends too early, after a place.
 fn say_cut_off(line: usize, byte: usize, out: &mut Vec<Message>) -> Result<(), Cause>
     ensures ok { OnOk result
         (out.new.items ≡ out.old.items ++ says MessageKind.CutOff (place_values line byte) ∷ []) }
-    ensures memory { IsOkUnless result Cause.OutOfMemory }
 {
     let mut message = Message::new(*out.allocator(), MessageKind::CutOff);
     message.add(&[Piece::Words(b"no JSON: it ends too early, after ")])?;
     add_place(line, byte, &mut message)?;
-    out.push(message)?;
-    Ok(())
+    message.say(out)
 }
 
 /// Says that a value has to be a string, and is something else.
 fn say_odd(key: Key, kind: Kind, out: &mut Vec<Message>) -> Result<(), Cause>
     ensures ok { OnOk result
         (out.new.items ≡ out.old.items ++ says MessageKind.NotAString (key_name key ∷ kind_text kind ∷ []) ∷ []) }
-    ensures memory { IsOkUnless result Cause.OutOfMemory }
 {
     say(
         MessageKind::NotAString,
@@ -159,7 +145,6 @@ fn say_odd(key: Key, kind: Kind, out: &mut Vec<Message>) -> Result<(), Cause>
 /// Says a key that a request may not have, if there is one.
 fn say_other(other: &Option<Text>, out: &mut Vec<Message>) -> Result<(), Cause>
     ensures ok { OnOk result (out.new.items ≡ out.old.items ++ other_said other.now) }
-    ensures memory { IsOkUnless result Cause.OutOfMemory }
 {
     match other {
         Some(name) => say_named(MessageKind::UnknownKey, b"unknown key: ", name, out),
@@ -175,7 +160,6 @@ fn say_named(
     out: &mut Vec<Message>,
 ) -> Result<(), Cause>
     ensures ok { OnOk result (out.new.items ≡ out.old.items ++ says kind (text.now ∷ []) ∷ []) }
-    ensures memory { IsOkUnless result Cause.OutOfMemory }
 {
     say(
         kind,
@@ -187,7 +171,6 @@ fn say_named(
 /// Says words alone.
 fn say_words(kind: MessageKind, words: &'static [u8], out: &mut Vec<Message>) -> Result<(), Cause>
     ensures ok { OnOk result (out.new.items ≡ out.old.items ++ says kind [] ∷ []) }
-    ensures memory { IsOkUnless result Cause.OutOfMemory }
 {
     say(kind, &[Piece::Words(words)], out)
 }
@@ -195,7 +178,6 @@ fn say_words(kind: MessageKind, words: &'static [u8], out: &mut Vec<Message>) ->
 /// Says that a key is missing.
 fn say_missing(key: Key, out: &mut Vec<Message>) -> Result<(), Cause>
     ensures ok { OnOk result (out.new.items ≡ out.old.items ++ says MessageKind.MissingKey (key_name key ∷ []) ∷ []) }
-    ensures memory { IsOkUnless result Cause.OutOfMemory }
 {
     let name = key.name().as_bytes();
     say(
@@ -208,7 +190,6 @@ fn say_missing(key: Key, out: &mut Vec<Message>) -> Result<(), Cause>
 /// Says which keys the request of a word has, after one that it may not have, if there is one.
 fn say_other_and_keys(word: Word, other: &Option<Text>, out: &mut Vec<Message>) -> Result<(), Cause>
     ensures ok { OnOk result (out.new.items ≡ out.old.items ++ (other_said other.now ++ keys_said word ∷ [])) }
-    ensures memory { IsOkUnless result Cause.OutOfMemory }
 {
     say_other(other, out)?;
     say_keys(word, out)
@@ -218,7 +199,6 @@ fn say_other_and_keys(word: Word, other: &Option<Text>, out: &mut Vec<Message>) 
 fn say_half(there: Key, missing: Key, out: &mut Vec<Message>) -> Result<(), Cause>
     ensures ok { OnOk result (out.new.items
         ≡ out.old.items ++ says MessageKind.Half (key_name there ∷ key_name missing ∷ []) ∷ []) }
-    ensures memory { IsOkUnless result Cause.OutOfMemory }
 {
     say(
         MessageKind::Half,
@@ -235,7 +215,6 @@ fn say_half(there: Key, missing: Key, out: &mut Vec<Message>) -> Result<(), Caus
 /// Says what a fault of a request is.
 pub fn say_request_fault(fault: &RequestFault, out: &mut Vec<Message>) -> Result<(), Cause>
     ensures ok { OnOk result (out.new.items ≡ out.old.items ++ fault_said fault.now) }
-    ensures memory { IsOkUnless result Cause.OutOfMemory }
 {
     match fault {
         RequestFault::NotUtf8 { byte } => say(

@@ -1,11 +1,11 @@
 //! One sentence for each refusal (docs/RULES.md, "Refusals", where they stand word for word).
 
 ghost use Rattle.std.specs.Prelude.{◌≡◌, ◌++◌, [], ◌∷◌, OnOk, OnErr};
-ghost use Rattle.std.specs.Result.{IsOkUnless};
-ghost use Rattle.treasury_messages.specs.Sentence.{sentence_of, sentence_said};
+ghost use Rattle.treasury_messages.specs.Sentence.{sentence_of, sentence_said, sentence_said_at};
 
 use crate::kind::MessageKind;
-use crate::message::{Message, Piece, say};
+use crate::message::{Message, say};
+use crate::piece::Piece;
 use money_core::Cause;
 
 /// When the refusal comes.
@@ -80,11 +80,27 @@ pub fn sentence(cause: Cause) -> &'static str
 pub fn say_sentence(cause: Cause, out: &mut Vec<Message>) -> Result<(), Cause>
     ensures ok { OnOk result (out.new.items ≡ out.old.items ++ sentence_said cause ∷ []) }
     ensures err { OnErr result (out.new.items ≡ out.old.items) }
-    ensures memory { IsOkUnless result Cause.OutOfMemory }
 {
     say(
         MessageKind::Sentence,
         &[Piece::Text(sentence(cause).as_bytes())],
+        out,
+    )
+}
+
+/// Says the sentence of a refusal with the file and the line that it comes from, after others.
+pub fn say_sentence_at(
+    source: &str,
+    line: usize,
+    cause: Cause,
+    out: &mut Vec<Message>,
+) -> Result<(), Cause>
+    ensures ok { OnOk result (out.new.items ≡ out.old.items ++ sentence_said_at source.now line cause ∷ []) }
+{
+    let text = sentence(cause).as_bytes();
+    say(
+        MessageKind::Sentence,
+        &[Piece::Origin(source, line), Piece::Text(text)],
         out,
     )
 }

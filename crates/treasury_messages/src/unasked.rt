@@ -1,7 +1,6 @@
 //! What is told of bytes that are no request.
 
 ghost use Rattle.std.specs.Prelude.{◌≡◌, ◌++◌, [], ◌∷◌, List, IfOk, OnOk, OnErr};
-ghost use Rattle.std.specs.Result.{IsOkUnless};
 ghost use Rattle.treasury_messages.specs.Said.{Said};
 ghost use Rattle.treasury_messages.specs.Printed.{IsFirstTextOf};
 ghost use Rattle.treasury_messages.specs.Sentence.{sentence_said};
@@ -19,7 +18,6 @@ use treasury_requests::fault_of;
 /// What is said of bytes that are no request: which fault they have first. Of a request it is nothing.
 fn fault_messages(alloc: Global, line: &[u8]) -> Result<Vec<Message>, Cause>
     ensures ok { IfOk result (λ said. TellsFault line.now said.items) }
-    ensures memory { IsOkUnless result Cause.OutOfMemory }
 {
     let mut said = Vec::new(alloc);
     if let Some(fault) = fault_of(alloc, line)? {
@@ -35,7 +33,6 @@ pub fn explain_request(alloc: Global, line: &[u8], out: &mut Vec<Message>) -> Re
     ensures ok { OnOk result
         ((said : List Said) × TellsUnasked line.now said × (out.new.items ≡ out.old.items ++ said)) }
     ensures err { OnErr result ((said : List Said) × LacksFault said × (out.new.items ≡ out.old.items ++ said)) }
-    ensures memory { IsOkUnless result Cause.OutOfMemory }
 {
     say_sentence(Cause::Request, out)?;
     let mut said = fault_messages(alloc, line)?;
@@ -44,7 +41,7 @@ pub fn explain_request(alloc: Global, line: &[u8], out: &mut Vec<Message>) -> Re
 }
 
 /// The lines of messages; where memory is refused, those of the first ones.
-fn text_of(alloc: Global, messages: &[Message]) -> Vec<u8>
+pub fn text_of(alloc: Global, messages: &[Message]) -> Vec<u8>
     ensures { IsFirstTextOf messages.now result.items }
 {
     let mut text = Vec::new(alloc);

@@ -1,5 +1,5 @@
 use Rattle.std.proofs.Common.{◌≡◌, ◌++◌, drop}
-use Rattle.treasury_messages.specs.Parts.{values}
+use Rattle.treasury_messages.specs.Pieces.{values}
 use Rattle.treasury_messages.proofs.message.Message.add.Given as goal
 
 -- what is named so far, and by the rest

@@ -1,0 +1,9 @@
+pub mod AccountLemmas
+pub mod BroughtLemmas
+pub mod DatedLemmas
+pub mod BranchLemmas
+pub mod OtherBranchLemmas
+pub mod EditedLemmas
+pub mod ImportNoteLemmas
+pub mod ExplainLemmas
+pub mod MarkLemmas

@@ -1,0 +1,9 @@
+pub mod LineLemmas
+pub mod BelowLemmas
+pub mod OddLemmas
+pub mod OddValues
+pub mod LeftOverLemmas
+pub mod SampleLemmas
+pub mod PriceLemmas
+pub mod ExactLemmas
+pub mod ExactValues

@@ -1,0 +1,3 @@
+pub mod NamedAccountLemmas
+pub mod OpenYearLemmas
+pub mod DryRunLemmas

@@ -1,3 +1,0 @@
-//! Texts as a terminal may show them, from the crate below.
-
-pub use terminal_text::{push_line, push_named, push_number, push_shown};
