@@ -1,11 +1,11 @@
 -- What is asked for by the route of a branch is of that branch.
 use Rattle.std.proofs.Common.{◌≡◌, ◌⊎◌, ◌∷◌, ℕ, ℤ, List, [], Bool, true, false, Option, Some, None, Result, Ok}
-use Rattle.std.proofs.Common.{Err, if◌then◌else◌, refl, subst, inl, inr, option_map}
+use Rattle.std.proofs.Common.{Err, if◌then◌else◌, refl, subst, inl, inr, option_map, MatchOption, ◌∙◌, ap, sym, codes}
 use Rattle.std.specs.List.{AllByRecursion}
 use Rattle.http_request.specs.declared.call.Call.{Call}
-use Rattle.http_request.specs.declared.call.Call.TheVariants.{Unreadable, Foreign, Nowhere, Balance, Journal, Transit}
-use Rattle.http_request.specs.declared.call.Call.TheVariants.{Branches, Commodities, Accounts, Transfers, Register}
-use Rattle.http_request.specs.declared.call.Call.TheVariants.{Command as CalledCommand}
+use Rattle.http_request.specs.declared.call.Form.{Form}
+use Rattle.http_request.specs.declared.call.Call.TheVariants.{Unreadable, Foreign, Nowhere}
+use Rattle.http_request.specs.declared.call.Call.TheVariants.{Command as CalledCommand, Report as CalledReport}
 use Rattle.money_core.specs.declared.cause.Cause.{Cause}
 use Rattle.money_core.specs.declared.day.Day.{Day}
 use Rattle.money_core.specs.declared.style.Style.{Style}
@@ -13,7 +13,6 @@ use Rattle.money_core.specs.declared.unit.Unit.{Unit}
 use Rattle.money_core.specs.Reading.{amount}
 use Rattle.money_core.proofs.ListLemmas.{all-append}
 use Rattle.money_core.proofs.BytesLemmas.{same_bytes}
-use Rattle.journal_lines.specs.DateReading.{date_of}
 use Rattle.book_core.specs.declared.refusal.Refusal.{Refusal}
 use Rattle.treasury_core.specs.declared.command.Answer.{Answer}
 use Rattle.treasury_core.specs.declared.command.Command.{Command as AnyCommand}
@@ -24,7 +23,8 @@ use Rattle.treasury_requests.specs.declared.request.Spelled.{Spelled}
 use Rattle.treasury_requests.specs.declared.request.Request.{Request}
 use Rattle.treasury_state.specs.Federation.{Federation}
 use Rattle.treasury_requests.specs.declared.request.Request.TheVariants as asking
-use Rattle.treasury_requests.specs.Request.{spelled, in_earnest, is_report, HasDayNumbers}
+use Rattle.treasury_requests.specs.Request.{request_by, spelled, in_earnest, is_report, HasDayNumbers}
+use Rattle.treasury_requests.specs.Given.{text_given}
 use Rattle.treasury_api.specs.declared.asking.Asked.{Asked}
 use Rattle.treasury_api.specs.declared.asking.Asked.TheVariants.{Command, DryRun, Report}
 use Rattle.treasury_api.specs.declared.web.answering.Sought.TheVariants as sought
@@ -33,9 +33,9 @@ use Rattle.treasury_api.specs.Step.{Standing}
 use Rattle.treasury_api.specs.History.{command_if}
 use Rattle.treasury_api.specs.OneRequest.{AnswersAs, command_of}
 use Rattle.treasury_api.specs.BranchCommand.{is_command_of, IsCommandOf}
-use Rattle.treasury_api.specs.Web.{only_of, asked_by, IsBodyIn, AnsweredCall, AreServed, turns_of_calls}
-use Rattle.treasury_api.specs.Web.{CommandsOnly, AreCommandsOf}
-use Rattle.treasury_api.specs.WebServing.{sought_of, SeeksDays}
+use Rattle.treasury_api.specs.Web.{only_of, report_only, asked_by, IsBodyIn, AnsweredCall, AreServed, turns_of_calls}
+use Rattle.treasury_api.specs.Web.{CommandsOnly, AreCommandsOf, IsNoRequest, IsForbidden}
+use Rattle.treasury_api.specs.WebServing.{sought_of, IsSought, SeeksDays}
 use Rattle.treasury_api.proofs.SpelledLemmas.{spelled_command}
 
 -- ---- a body that is read
@@ -48,6 +48,26 @@ sought_days (Some name) request days = by_own (is_command_of name request.reques
     by_own : (own : Bool) → SeeksDays (if own then sought.Request request else sought.Forbidden)
     by_own true = days
     by_own false = tt
+
+-- what the request of a body is by a route, where the body spells it
+pub sought_body : (branch : Option (List ℕ)) (body : List ℕ) (request : Spelled) → spelled body ≡ Some request
+    → IsSought (CalledCommand branch body) (sought_of branch request)
+sought_body None body request e = e
+sought_body (Some name) body request e = by_own (is_command_of name request.request) refl
+  where
+    asked_if : (own : Bool) → is_command_of name request.request ≡ own
+        → only_of (Some name) (spelled body) ≡ (if own then Some request else None)
+    asked_if own is = ap (only_of (Some name)) e ∙ ap (λ (b : Bool). if b then Some request else None) is
+
+    by_own : (own : Bool) → is_command_of name request.request ≡ own
+        → IsSought (CalledCommand (Some name) body) (if own then sought.Request request else sought.Forbidden)
+    by_own true is = asked_if true is
+    by_own false is =
+        let said = codes "forbidden\n" in
+        let forbidden : IsForbidden 403 said = (refl, refl) in
+        let told = λ (form : Form) (read : Option Spelled).
+        MatchOption read (IsNoRequest form 403 said) (λ r. IsForbidden 403 said) in
+        (asked_if false is, λ form. subst (told form) (sym e) forbidden)
 
 -- ---- a command that is asked for
 
@@ -163,10 +183,15 @@ report_is report request is e =
     let same : in_earnest report ≡ request = cc in
     subst (λ (r : Spelled). is_report r.request ≡ true) same is
 
-dated_is : (make : Day → Request) (day : Option Day) (request : Spelled) → ((d : Day) → is_report (make d) ≡ true)
-    → option_map (λ d. in_earnest (make d)) day ≡ Some request → is_report request.request ≡ true
-dated_is make None request is e = absurd cc
-dated_is make (Some day) request is e = report_is (make day) request (is day) e
+report_own : (o : Option Request) (request : Spelled) → report_only o ≡ Some request
+    → is_report request.request ≡ true
+report_own None request e = absurd cc
+report_own (Some report) request e = by_test (is_report report) refl e
+  where
+    by_test : (v : Bool) → is_report report ≡ v → (if v then Some (in_earnest report) else None) ≡ Some request
+        → is_report request.request ≡ true
+    by_test true is e = report_is report request is e
+    by_test false is e = absurd cc
 
 asked_own : (name : List ℕ) (call : Call) (request : Spelled) → CommandsOnly name call → asked_by call ≡ Some request
     → MayAsk name request.request
@@ -177,16 +202,7 @@ asked_own name (CalledCommand None body) request only e = absurd only
 asked_own name (CalledCommand (Some branch) body) request only e =
     inl (subst (λ (b : List ℕ). is_command_of b request.request ≡ true) only
     (body_own branch (spelled body) request e))
-asked_own name (Balance branch date) request only e =
-    inr (dated_is (asking.Balance branch) (date_of date) request (λ d. refl) e)
-asked_own name (Journal branch) request only e = inr (report_is (asking.Journal branch) request refl e)
-asked_own name (Register branch account tag) request only e =
-    inr (report_is (asking.Register branch account tag) request refl e)
-asked_own name (Transit date) request only e = inr (dated_is asking.Transit (date_of date) request (λ d. refl) e)
-asked_own name Branches request only e = inr (report_is asking.Branches request refl e)
-asked_own name Commodities request only e = inr (report_is asking.Commodities request refl e)
-asked_own name (Accounts branch) request only e = inr (report_is (asking.Accounts branch) request refl e)
-asked_own name (Transfers date) request only e = inr (dated_is asking.Transfers (date_of date) request (λ d. refl) e)
+asked_own name (CalledReport w given) request only e = inr (report_own (request_by w (text_given given)) request e)
 
 -- ---- calls one after another
 

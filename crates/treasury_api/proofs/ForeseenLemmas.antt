@@ -1,6 +1,7 @@
 -- What is replied to a dry run.
-use Rattle.std.proofs.Common.{◌≡◌, ◌++◌, ◌⊎◌, ℕ, List, [], Bool, true, false, Some, Result, Ok, Err, IfErr}
-use Rattle.std.proofs.Common.{OnErr, refl, ap, ◌∙◌, sym, subst, inl, inr}
+use Rattle.std.proofs.Common.{◌≡◌, ◌++◌, ◌⊎◌, ℕ, List, [], Bool, true, false, Option, None, Some}
+use Rattle.std.specs.Prelude.{IfSome}
+use Rattle.std.proofs.Common.{Result, Ok, Err, IfErr, OnErr, refl, ap, ◌∙◌, sym, subst, inl, inr}
 use Rattle.sqlite.specs.Store.{Ghosts}
 use Rattle.money_core.specs.declared.style.Style.{Style}
 use Rattle.money_core.specs.declared.cause.Cause.{Cause}
@@ -19,6 +20,9 @@ use Rattle.treasury_store.specs.Treasury.{Treasury, IsTreasuryOf, IsListedRefusa
 use Rattle.treasury_store.proofs.OwnRefusalLemmas.{reply_not_failed, listed_reply}
 use Rattle.http_request.specs.declared.call.Form.{Form}
 use Rattle.treasury_api.specs.declared.asking.Asked.TheVariants.{DryRun}
+use Rattle.treasury_requests.specs.declared.request.Spelled.{Spelled}
+use Rattle.treasury_api.specs.Asked.{SpelledAsks}
+use Rattle.treasury_api.specs.Beside.{IsAddedAhead}
 use Rattle.treasury_api.specs.Answer.{answer_text}
 use Rattle.treasury_api.specs.Step.{MayReplyAsked}
 use Rattle.treasury_api.specs.Left.{FailsWith}
@@ -135,3 +139,16 @@ foreseen_same f c (Err e) before written (r, (steps, (is, same))) = same
 pub what_is_added : (f : Federation) (c : AnyCommand) (answer : Answer) (added : List Addition)
     → Decides f c (Ok (answer, added)) → added ≡ delta f c (command_reply f c)
 what_is_added f c answer added (replied, is) = is ∙ ap (λ (r : Result Answer Refusal). delta f c r) (sym replied)
+
+-- what is added in the state that memory holds
+pub added_ahead : (held : Option Federation) (f : Federation) (request : Spelled) (c : AnyCommand)
+    (added : Option (List Addition)) → held ≡ Some f → SpelledAsks f request (Ok (DryRun c))
+    → IfSome added (λ (list : List Addition). list ≡ delta f c (command_reply f c))
+    → IfSome added (IsAddedAhead held request)
+added_ahead held f request c None is asks same = tt
+added_ahead held f request c (Some list) is asks same = (f, is, c, asks, same)
+
+-- what is decided, of a command that is refused
+pub refused_steps : (f : Federation) (c : AnyCommand) (e : Refusal) → Decides f c (Err e) → Steps f c (Err e)
+refused_steps f c e (inl memory) = inr (ap (λ (x : Refusal). Err x) memory)
+refused_steps f c e (inr refused) = inl (sym refused)

@@ -19,6 +19,7 @@ pub mod WebReplyLemmas
 pub mod ObjectLemmas
 pub mod WebLemmas
 pub mod JsonLemmas
+pub mod BesideLemmas
 pub mod BranchLemmas
 pub mod RunEndLemmas
 pub mod WorkedValues

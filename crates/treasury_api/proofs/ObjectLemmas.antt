@@ -1,7 +1,7 @@
 -- How long the object of a plain answer is.
 use Rattle.std.proofs.Common.{◌≡◌, ◌≤◌, ◌<◌, ◌+◌, ◌*◌, ◌-◌, ◌++◌, ◌∷◌, [], ℕ, List, length, take, drop, codes, arith}
 use Rattle.std.proofs.Common.{refl, ap, ◌∙◌, sym, subst, append_assoc, append-nil, length-append, Bool, true, false}
-use Rattle.std.proofs.Common.{decimal, inl, inr, ◌⊎◌}
+use Rattle.std.proofs.Common.{decimal, inl, inr, ◌⊎◌, map}
 use Rattle.std.specs.List.{flat_map}
 use Rattle.std.specs.Fmt.{digits}
 use Rattle.std.proofs.lemmas.Str.{IsUtf8-nil, is_utf8-from_IsUtf8}
@@ -14,9 +14,12 @@ use Rattle.json_text.proofs.LengthLemmas.{length-quoted}
 use Rattle.json_text.specs.JsonText as held
 use Rattle.treasury_state.specs.Federation.{Federation}
 use Rattle.treasury_api.specs.declared.report.Report.{Report as AnyReport}
+use Rattle.treasury_reports.specs.Rows.{strings_of}
 use Rattle.treasury_api.specs.Report.{report_rows, report_json}
 use Rattle.treasury_messages.specs.Sentence.{sentence_of}
-use Rattle.treasury_api.specs.WebServing.{done_json, refusal_json, refused_json, IsJsonRefused, IsJsonTold}
+use Rattle.treasury_api.specs.JsonReply.{done_json, refusal_json, refused_json}
+use Rattle.treasury_api.specs.Beside.{IsJsonNoted, IsJsonTold}
+use Rattle.treasury_api.specs.WebServing.{IsJsonRefused}
 
 -- ---- the parts of a refusal
 
@@ -330,11 +333,11 @@ report_parts rows =
     ap (λ (t : List ℕ). codes "{\"lines\":" ++ t) (nest_rows (rows_text rows) (codes "}") (codes "\n"))
 
 pub report_object : (f : Federation) (report : AnyReport) (old rows new : List ℕ)
-    → rows ≡ [] ++ rows_text (report_rows f report)
+    → rows ≡ [] ++ rows_text (map strings_of (report_rows f report))
     → new ≡ old ++ (codes "{\"lines\":" ++ (rows ++ (codes "}\n" ++ []))) → new ≡ old ++ report_json f report
 report_object f report old rows new is said =
     said ∙ (ap (λ (t : List ℕ). old ++ (codes "{\"lines\":" ++ (t ++ (codes "}\n" ++ [])))) is
-    ∙ ap (λ (t : List ℕ). old ++ t) (report_parts (report_rows f report)))
+    ∙ ap (λ (t : List ℕ). old ++ t) (report_parts (map strings_of (report_rows f report))))
 
 -- ---- the object of a refusal, by its cause
 
@@ -385,6 +388,16 @@ pub told_none : {T E : Type 0} (result : Result T E) (line : List ℕ) (cause : 
 told_none (Ok v) line cause told entries old mid new same none is =
     told_in line cause told [] entries mid new (same ∙ none) (inr refl) is
 told_none (Err e) line cause told entries old mid new same none is = tt
+
+-- what is noted in the object that is appended to nothing
+pub noted_in : (line noted kept : List ℕ) (entries : Option ℕ) (old new : List ℕ) → old ≡ []
+    → (kept ≡ noted) ⊎ (kept ≡ []) → new ≡ old ++ done_json line kept entries → IsJsonNoted line noted entries new
+noted_in line noted kept entries old new none (inl same) is =
+    inl (is ∙ ap (λ (o : List ℕ). o ++ done_json line kept entries) none
+    ∙ ap (λ (t : List ℕ). done_json line t entries) same)
+noted_in line noted kept entries old new none (inr same) is =
+    inr (is ∙ ap (λ (o : List ℕ). o ++ done_json line kept entries) none
+    ∙ ap (λ (t : List ℕ). done_json line t entries) same)
 
 -- what is told to be refused is not done
 pub not_both : {T E : Type 0} (result : Result T E) (error : E) → result ≡ Err error → IsOk result → ⊥

@@ -10,7 +10,7 @@ use Rattle.treasury_core.specs.declared.command.Answer.TheVariants.{Entered}
 use Rattle.treasury_core.specs.declared.command.Command.TheVariants.{Enter}
 use Rattle.treasury_core.specs.Step.{reply, done, after, step}
 use Rattle.treasury_requests.specs.declared.request.Request.TheVariants.{Import as ForImport}
-use Rattle.treasury_told.specs.Uneven.{IsReadImport}
+use Rattle.treasury_reasons.specs.Uneven.{IsReadImport}
 
 styles_after_entered : (f : Federation) (name : List ℕ) (file : List Located) (new repeated : ℕ)
     → reply f (Enter name file) ≡ Ok (Entered new repeated) → (step f (Enter name file)).next.styles ≡ f.styles

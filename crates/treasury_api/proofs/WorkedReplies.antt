@@ -1,11 +1,14 @@
 -- Statuses and replies, worked out by hand.
-use Rattle.std.specs.Prelude.{◌≡◌, ℕ, List, [], Ok, Err, None, Some, codes, refl, true, false}
+use Rattle.std.specs.Prelude.{◌≡◌, ℕ, List, [], ◌∷◌, Ok, Err, None, Some, codes, refl, true, false}
 use Rattle.money_core.specs.declared.day.Day.{Day}
 use Rattle.std.specs.Fmt.{digits}
 use Rattle.money_core.specs.declared.cause.Cause.TheVariants as cause
 use Rattle.book_core.specs.declared.refusal.Refusal.TheVariants.{Plain, Text}
 use Rattle.treasury_core.specs.declared.command.Answer.TheVariants.{Done, Entered, Repeated}
-use Rattle.http_request.specs.declared.call.Call.TheVariants.{Unreadable, Foreign, Nowhere, Journal}
+use Rattle.http_request.specs.declared.call.Call.TheVariants.{Unreadable, Foreign, Nowhere, Report}
+use Rattle.http_request.specs.Routes.{at_key}
+use Rattle.treasury_requests.specs.declared.words.Word.TheVariants as word
+use Rattle.treasury_requests.specs.declared.words.Key.TheVariants as key
 use Rattle.treasury_requests.specs.declared.request.Request.TheVariants as asking
 use Rattle.treasury_requests.specs.Request.{in_earnest}
 use Rattle.treasury_api.specs.BranchCommand.{is_command_of}
@@ -53,9 +56,15 @@ unfolding digits
 forbidden = refl
 
 -- parts of a path are taken as they stand
-pub parts : (asked_by (Journal (codes "%6eorth")) ≡ Some (in_earnest (asking.Journal (codes "%6eorth"))))
+pub parts : (asked_by (Report word.Journal (at_key key.Branch (codes "%6eorth") ∷ []))
+    ≡ Some (in_earnest (asking.Journal (codes "%6eorth"))))
     × (asked_by Unreadable ≡ None) × (asked_by Foreign ≡ None) × (asked_by Nowhere ≡ None)
 parts = (refl, refl, refl, refl)
+
+-- nothing at a key that is needed, and a word that is no report
+pub no_report : (asked_by (Report word.Transit []) ≡ None)
+    × (asked_by (Report word.Branch (at_key key.Name (codes "north") ∷ [])) ≡ None)
+no_report = (refl, refl)
 
 -- a transfer is dispatched by the branch that it is from, and received by the one that it is to
 pub transferred : (day : Day)

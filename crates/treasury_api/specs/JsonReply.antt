@@ -52,3 +52,21 @@ IsJsonOf entries styles (Ok answer) body =
     (noted : List ℕ) × (is_utf8 noted ≡ true) × (body ≡ reply_json styles (Ok answer) [] noted entries)
 IsJsonOf entries styles (Err refusal) body =
     (told : List ℕ) × (is_utf8 told ≡ true) × (body ≡ reply_json styles (Err refusal) told [] entries)
+
+-- the object of an answer that is no refusal, by its line, what is noted, and the entries of its branch
+abbrev pub done_json : List ℕ → List ℕ → Option ℕ → List ℕ
+done_json line noted entries =
+    object_text ((codes "answer", string line) ∷ (codes "told", strings (lines_of []))
+    ∷ (codes "notes", strings (lines_of noted)) ∷ entries_member entries) ++ codes "\n"
+
+-- that of a refusal, by its line, its number, its name, its sentence, what is told, and those entries
+abbrev pub refusal_json : List ℕ → List ℕ → List ℕ → List ℕ → List ℕ → Option ℕ → List ℕ
+refusal_json line nr name sentence told entries =
+    object_text ((codes "answer", string line) ∷ (codes "number", string nr) ∷ (codes "name", string name)
+    ∷ (codes "sentence", string sentence) ∷ (codes "told", strings (lines_of told))
+    ∷ (codes "notes", strings (lines_of [])) ∷ entries_member entries) ++ codes "\n"
+
+-- the same by its line, its cause, what is told, and those entries
+abbrev pub refused_json : List ℕ → Cause → List ℕ → Option ℕ → List ℕ
+refused_json line cause told entries =
+    refusal_json line (decimal (cause_number cause)) (cause_name cause) (sentence_of cause) told entries

@@ -13,6 +13,7 @@ pub mod OneRequest
 pub mod Kept
 pub mod WebReply
 pub mod JsonReply
+pub mod Beside
 pub mod BranchCommand
 pub mod Web
 -- What mirrors code, for private clauses: nobody has to believe it

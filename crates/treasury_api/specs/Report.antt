@@ -1,35 +1,26 @@
--- The reports that may be asked for (own rule; docs/RULES.md, "Reports"), by the texts and the rows of
--- `treasury_reports`; in JSON each is an object that has its rows (docs/FORMATS.md, "Replies in JSON").
-use Rattle.std.specs.Prelude.{ℕ, List, [], ◌∷◌, ◌++◌, codes, Bool, true}
+-- The reports that may be asked for (own rule; docs/RULES.md, "Reports"), by the rows of `treasury_reports`; in
+-- JSON each is an object that has its rows (docs/FORMATS.md, "Replies in JSON").
+use Rattle.std.specs.Prelude.{ℕ, List, [], ◌∷◌, ◌++◌, map, codes, Bool, true}
 use Rattle.json_text.specs.JsonText.{Held, rows, object_text}
 use Rattle.http_request.specs.declared.call.Form.{Form}
 use Rattle.http_request.specs.declared.call.Form.TheVariants as form
 use Rattle.treasury_state.specs.Federation.{Federation, has_branch}
-use Rattle.treasury_reports.specs.BalanceReport.{balance_text, balance_rows}
-use Rattle.treasury_reports.specs.RegisterReport.{register_text, register_rows}
-use Rattle.treasury_reports.specs.TransitReport.{transit_text, transit_rows}
-use Rattle.treasury_reports.specs.JournalReport.{branch_journal, journal_rows}
-use Rattle.treasury_reports.specs.BranchesReport.{branches_text, branches_rows}
-use Rattle.treasury_reports.specs.CommoditiesReport.{commodities_text, commodities_rows}
-use Rattle.treasury_reports.specs.AccountsReport.{accounts_text, accounts_rows}
-use Rattle.treasury_reports.specs.TransfersReport.{transfers_text, transfers_rows}
+use Rattle.treasury_reports.specs.declared.rows.Layout.TheVariants.{Text}
+use Rattle.treasury_reports.specs.Rows.{Row, strings_of, report_as}
+use Rattle.treasury_reports.specs.BalanceReport.{balance_rows}
+use Rattle.treasury_reports.specs.RegisterReport.{register_rows}
+use Rattle.treasury_reports.specs.TransitReport.{transit_rows}
+use Rattle.treasury_reports.specs.JournalReport.{journal_rows}
+use Rattle.treasury_reports.specs.BranchesReport.{branches_rows}
+use Rattle.treasury_reports.specs.CommoditiesReport.{commodities_rows}
+use Rattle.treasury_reports.specs.AccountsReport.{accounts_rows}
+use Rattle.treasury_reports.specs.TransfersReport.{transfers_rows}
 use Rattle.treasury_api.specs.declared.report.Report.{Report}
 use Rattle.treasury_api.specs.declared.report.Report.TheVariants.{Balance, Register, Transit, Journal}
 use Rattle.treasury_api.specs.declared.report.Report.TheVariants.{Branches, Commodities, Accounts, Transfers}
 
--- the lines of a report
-abbrev pub report_text : Federation → Report → List ℕ
-report_text f (Balance name day) = balance_text f name day
-report_text f (Register name account tag) = register_text f name account tag
-report_text f (Transit day) = transit_text f day
-report_text f (Journal name) = branch_journal f name
-report_text f Branches = branches_text f
-report_text f Commodities = commodities_text f
-report_text f (Accounts name) = accounts_text f name
-report_text f (Transfers day) = transfers_text f day
-
--- the rows of a report, each a list of its columns
-abbrev pub report_rows : Federation → Report → List (List (List ℕ))
+-- the rows of a report
+abbrev pub report_rows : Federation → Report → List Row
 report_rows f (Balance name day) = balance_rows f name day
 report_rows f (Register name account tag) = register_rows f name account tag
 report_rows f (Transit day) = transit_rows f day
@@ -39,9 +30,13 @@ report_rows f Commodities = commodities_rows f
 report_rows f (Accounts name) = accounts_rows f name
 report_rows f (Transfers day) = transfers_rows f day
 
+-- its lines
+abbrev pub report_text : Federation → Report → List ℕ
+report_text f report = report_as Text (report_rows f report)
+
 -- the members of the object of a report
 abbrev pub report_members : Federation → Report → List (List ℕ × Held)
-report_members f report = (codes "lines", rows (report_rows f report)) ∷ []
+report_members f report = (codes "lines", rows (map strings_of (report_rows f report))) ∷ []
 
 -- the object of a report, with a line feed after it
 abbrev pub report_json : Federation → Report → List ℕ

@@ -2,15 +2,13 @@
 -- "HTTP"). What the bytes of a connection call for, `http_request` says.
 use mathlib.Core.Logic.{inl, inr}
 use Rattle.std.specs.Prelude.{◌≡◌, ◌<◌, ◌⊎◌, ℕ, true, false, List, [], ◌∷◌, ◌++◌, take, length, Option, Some, None}
-use Rattle.std.specs.Prelude.{option_map, Result, Ok, Err, MatchOption, MatchResult, IsTrue, codes, ⊤, if◌then◌else◌}
+use Rattle.std.specs.Prelude.{Result, Ok, Err, MatchOption, MatchResult, IsTrue, codes, ⊤, if◌then◌else◌}
 use Rattle.std.specs.List.{AllByRecursion}
 use Rattle.std.specs.Io.KnownBytes.{Appends}
 use Rattle.sqlite.specs.Store.{Ghosts}
 use Rattle.sqlite.specs.Held.{state}
 use Rattle.http_request.specs.declared.call.Call.{Call}
-use Rattle.http_request.specs.declared.call.Call.TheVariants.{Unreadable, Foreign, Nowhere, Command, Balance, Journal}
-use Rattle.http_request.specs.declared.call.Call.TheVariants.{Transit, Branches, Commodities, Accounts, Transfers}
-use Rattle.http_request.specs.declared.call.Call.TheVariants.{Register}
+use Rattle.http_request.specs.declared.call.Call.TheVariants.{Unreadable, Foreign, Nowhere, Command, Report}
 use Rattle.http_request.specs.declared.call.Form.{Form}
 use Rattle.http_request.specs.declared.call.Form.TheVariants as form
 use Rattle.http_request.specs.declared.call.Received.{Received}
@@ -18,7 +16,6 @@ use Rattle.http_request.specs.Call.{ReadsCall, IsStopped}
 use Rattle.money_core.specs.declared.cause.Cause.{Cause}
 use Rattle.money_core.specs.declared.cause.Cause.TheVariants.{OutOfMemory, ReadFault, WriteFault, Request as NoRequest}
 use Rattle.money_core.specs.declared.cause.Cause.TheVariants.{Store as Failed}
-use Rattle.journal_lines.specs.DateReading.{date_of}
 use Rattle.book_core.specs.declared.refusal.Refusal.{Refusal}
 use Rattle.book_core.specs.declared.refusal.Refusal.TheVariants.{Plain}
 use Rattle.treasury_state.specs.Federation.{Federation}
@@ -27,8 +24,9 @@ use Rattle.treasury_core.specs.Run.{Turn}
 use Rattle.treasury_tables.specs.Kept.{ShutsByFault, IsFaithful}
 use Rattle.treasury_store.specs.Treasury.{Treasury, IsTreasuryOf}
 use Rattle.treasury_requests.specs.declared.request.Spelled.{Spelled}
-use Rattle.treasury_requests.specs.declared.request.Request.TheVariants as asking
-use Rattle.treasury_requests.specs.Request.{spelled, in_earnest}
+use Rattle.treasury_requests.specs.declared.request.Request.{Request}
+use Rattle.treasury_requests.specs.Request.{request_by, is_report, spelled, in_earnest}
+use Rattle.treasury_requests.specs.Given.{text_given}
 use Rattle.treasury_api.specs.declared.asking.Asked.{Asked}
 use Rattle.treasury_api.specs.Asked.{entries_asked}
 use Rattle.treasury_api.specs.declared.asking.Asked.TheVariants as meant
@@ -48,20 +46,18 @@ only_of None request = request
 only_of (Some branch) None = None
 only_of (Some branch) (Some request) = if is_command_of branch request.request then Some request else None
 
+-- the request, if it is for a report
+abbrev pub report_only : Option Request → Option Spelled
+report_only None = None
+report_only (Some request) = if is_report request then Some (in_earnest request) else None
+
 -- the request that is called for; none where nothing is, as by a date that is none
 abbrev pub asked_by : Call → Option Spelled
 asked_by Unreadable = None
 asked_by Foreign = None
 asked_by Nowhere = None
 asked_by (Command branch body) = only_of branch (spelled body)
-asked_by (Balance branch date) = option_map (λ day. in_earnest (asking.Balance branch day)) (date_of date)
-asked_by (Journal branch) = Some (in_earnest (asking.Journal branch))
-asked_by (Register branch account tag) = Some (in_earnest (asking.Register branch account tag))
-asked_by (Transit date) = option_map (λ day. in_earnest (asking.Transit day)) (date_of date)
-asked_by Branches = Some (in_earnest asking.Branches)
-asked_by Commodities = Some (in_earnest asking.Commodities)
-asked_by (Accounts branch) = Some (in_earnest (asking.Accounts branch))
-asked_by (Transfers date) = option_map (λ day. in_earnest (asking.Transfers day)) (date_of date)
+asked_by (Report w given) = report_only (request_by w (text_given given))
 
 -- 403, as it is replied to what is foreign, or is a request but no command of the branch
 abbrev pub IsForbidden : ℕ → List ℕ → Type 0

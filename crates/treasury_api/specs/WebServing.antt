@@ -2,9 +2,7 @@
 use Rattle.std.specs.Prelude.{◌≡◌, ◌<◌, ◌-◌, ◌⊎◌, ⊤, ℕ, true, List, [], ◌∷◌, ◌++◌, length, take, Option, Some, None}
 use Rattle.std.specs.Prelude.{Err, IsTrue, codes, decimal, if◌then◌else◌, option_and_then}
 use Rattle.std.specs.Str.{is_utf8}
-use Rattle.json_text.specs.JsonText.{string, strings, object_text, lines_of}
-use Rattle.money_core.specs.Cause.{cause_number, cause_name}
-use Rattle.treasury_messages.specs.Sentence.{sentence_of, sentence_said}
+use Rattle.treasury_messages.specs.Sentence.{sentence_said}
 use Rattle.treasury_messages.specs.Printed.{IsFirstTextOf}
 use Rattle.treasury_messages.specs.Unasked.{IsToldUnasked}
 use Rattle.money_core.specs.declared.style.Style.{Style}
@@ -24,8 +22,9 @@ use Rattle.treasury_api.specs.declared.web.status.Status.TheVariants.{Done, BadR
 use Rattle.treasury_api.specs.declared.web.status.Status.TheVariants.{Unprocessable, Internal, Unavailable}
 use Rattle.treasury_api.specs.WebReply.{cause_of}
 use Rattle.treasury_api.specs.Left.{LeavesRequest}
+use Rattle.treasury_api.specs.JsonReply.{done_json, refused_json}
+use Rattle.treasury_api.specs.Beside.{IsJsonTold}
 use Rattle.treasury_api.specs.Asked.{entries_asked}
-use Rattle.treasury_api.specs.JsonReply.{entries_member}
 use Rattle.treasury_api.specs.Web.{asked_by, IsRefusal44, IsNoAnswer, IsOpenButFailed}
 use Rattle.treasury_api.specs.BranchCommand.{is_command_of}
 use Rattle.http_request.specs.declared.call.Call.{Call}
@@ -100,24 +99,6 @@ abbrev pub entries_told : Option Federation → Spelled → Option ℕ
 entries_told held request =
     if request.terms.is_dry_run then option_and_then (λ f. entries_asked f request.request) held else None
 
--- the object of an answer that is no refusal, by its line, what is noted, and the entries of its branch
-abbrev pub done_json : List ℕ → List ℕ → Option ℕ → List ℕ
-done_json line noted entries =
-    object_text ((codes "answer", string line) ∷ (codes "told", strings (lines_of []))
-    ∷ (codes "notes", strings (lines_of noted)) ∷ entries_member entries) ++ codes "\n"
-
--- that of a refusal, by its line, its number, its name, its sentence, what is told, and those entries
-abbrev pub refusal_json : List ℕ → List ℕ → List ℕ → List ℕ → List ℕ → Option ℕ → List ℕ
-refusal_json line nr name sentence told entries =
-    object_text ((codes "answer", string line) ∷ (codes "number", string nr) ∷ (codes "name", string name)
-    ∷ (codes "sentence", string sentence) ∷ (codes "told", strings (lines_of told))
-    ∷ (codes "notes", strings (lines_of [])) ∷ entries_member entries) ++ codes "\n"
-
--- the same by its line, its cause, what is told, and those entries
-abbrev pub refused_json : List ℕ → Cause → List ℕ → Option ℕ → List ℕ
-refused_json line cause told entries =
-    refusal_json line (decimal (cause_number cause)) (cause_name cause) (sentence_of cause) told entries
-
 -- something in UTF-8 is noted, or told
 abbrev pub IsJsonDone : List ℕ → Option ℕ → List ℕ → Type 0
 IsJsonDone line entries body = (noted : List ℕ) × (is_utf8 noted ≡ true) × (body ≡ done_json line noted entries)
@@ -126,11 +107,6 @@ IsJsonDone line entries body = (noted : List ℕ) × (is_utf8 noted ≡ true) ×
 abbrev pub IsJsonRefused : List ℕ → Cause → Option ℕ → List ℕ → Type 0
 IsJsonRefused line cause entries body =
     (told : List ℕ) × (is_utf8 told ≡ true) × (body ≡ refused_json line cause told entries)
-
--- that of a refusal, in which that is told, or nothing
-abbrev pub IsJsonTold : List ℕ → Cause → List ℕ → Option ℕ → List ℕ → Type 0
-IsJsonTold line cause told entries body =
-    (body ≡ refused_json line cause told entries) ⊎ (body ≡ refused_json line cause [] entries)
 
 -- what is told of a call that is no request: of a body, which fault it has first; of a call without one, the sentence
 abbrev pub IsToldOfBody : Option (List ℕ) → List ℕ → Type 0
@@ -148,4 +124,11 @@ abbrev pub IsJsonRefusal : List ℕ → Cause → Option ℕ → Cause → List 
 IsJsonRefusal text because entries cause body =
     (IsJsonRefused (take (length text - 1) text) because entries body × (cause ≡ because))
     ⊎ ((64 < length text) × IsJsonRefused (codes "refused 40 OutOfMemory") OutOfMemory None body
+    × (cause ≡ OutOfMemory))
+
+-- the same with what is told: that, or nothing; nothing of 40 in its place
+abbrev pub IsJsonToldOf : List ℕ → Cause → List ℕ → Option ℕ → Cause → List ℕ → Type 0
+IsJsonToldOf text because told entries cause body =
+    (IsJsonTold (take (length text - 1) text) because told entries body × (cause ≡ because))
+    ⊎ ((64 < length text) × IsJsonTold (codes "refused 40 OutOfMemory") OutOfMemory [] None body
     × (cause ≡ OutOfMemory))

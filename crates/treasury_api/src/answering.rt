@@ -1,11 +1,12 @@
 //! Answers to requests, on a treasury.
 
-ghost use Rattle.std.specs.Prelude.{◌≡◌, ◌≤◌, ◌+◌, length, false, None, Ok, Err, OnOk, OnErr, IsTrue};
+ghost use Rattle.std.specs.Prelude.{◌≡◌, ◌≤◌, ◌+◌, length, false, None, Ok, Err, OnOk, OnErr, IfSome, IsTrue};
 ghost use Rattle.sqlite.specs.Held.{state};
 ghost use Rattle.treasury_tables.specs.Kept.{StaysAsIs, IsFaithful};
 ghost use Rattle.treasury_store.specs.Shown.{ShowsNoState};
 ghost use Rattle.treasury_store.specs.Left.{LeavesStep};
 ghost use Rattle.treasury_requests.specs.Request.{HasDayNumbers, is_report};
+ghost use Rattle.treasury_api.specs.Beside.{IsAddedAhead};
 ghost use Rattle.treasury_api.specs.Left.{IsUnread, KeepsDatabase, LeavesRequest};
 ghost use Rattle.treasury_api.specs.Replied.{OfAnyState, IsRepliedIn, IsAnsweredIn, RefusesInAnyCase};
 ghost use Rattle.treasury_api.specs.Serving.{IsHeldFor};
@@ -20,7 +21,7 @@ use journal_format::reading_law;
 use money_core::{Cause, Styles};
 use sqlite::Alter;
 use std::alloc::Global;
-use treasury_core::Command;
+use treasury_core::{Command, Delta};
 use treasury_requests::Spelled;
 use treasury_store::{Treasury, left_law};
 
@@ -93,7 +94,37 @@ pub fn answer<S: Alter>(
     // Whatever is left, also after 41: the rows of the state before the request, or of the one after it.
     ensures left { LeavesRequest S.Store treasury.old treasury.new request.now }
 {
+    answer_ahead(alloc, form, request, treasury, out, &mut None)
+}
+
+/// Answers a request as `answer` does, and hands out what it would add as a dry run, where that is not refused.
+pub fn answer_ahead<S: Alter>(
+    alloc: Global,
+    form: Form,
+    request: &Spelled,
+    treasury: &mut Treasury<S>,
+    out: &mut Vec<u8>,
+    added: &mut Option<Delta>,
+) -> Result<(), Refusal>
+    requires { HasDayNumbers request.now.request }
+    ensures replies { OfAnyState S.Store treasury.old treasury.new (λ f. IsAnsweredIn form S.Store
+        treasury.old.store.failed treasury.new f request.now result out.old.items out.new.items) }
+    ensures short { is_report request.now.request ≡ false
+        → OnOk result (length out.new.items ≤ length out.old.items + MOST_PLAIN) }
+    ensures err { OnErr result (out.new.items ≡ out.old.items) }
+    ensures refuses { RefusesInAnyCase treasury.old treasury.new result }
+    ensures closed { IsTrue treasury.old.store.failed
+        → (result ≡ Err (Refusal.Plain Cause.Closed)) × (treasury.new ≡ treasury.old) }
+    ensures strange { IsFaithful S.Store treasury.new.store.conn → treasury.old.store.failed ≡ false
+        → treasury.old.held ≡ None → ShowsNoState (state S.Store treasury.old.store.conn).now
+        → IsUnread result × (IsTrue (state S.Store treasury.new.store.conn).is_open
+        → StaysAsIs (state S.Store treasury.old.store.conn) (state S.Store treasury.new.store.conn)) }
+    ensures database { KeepsDatabase S.Store treasury.old.store.conn treasury.new.store.conn result }
+    ensures left { LeavesRequest S.Store treasury.old treasury.new request.now }
+    ensures added { IfSome added.new (IsAddedAhead treasury.new.held request.now) }
+{
     reading_law();
+    *added = None;
     match treasury.hold() {
         Ok(()) => {}
         Err(cause) => return Err(Refusal::Plain(cause)),
@@ -104,7 +135,7 @@ pub fn answer<S: Alter>(
     state.is_good();
     match asked_by(alloc, state, request) {
         Ok(Asked::Command(command)) => answer_command(alloc, treasury, command, out),
-        Ok(Asked::DryRun(command)) => answer_dry_run(alloc, state, &command, out),
+        Ok(Asked::DryRun(command)) => answer_dry_run(alloc, state, &command, out, added),
         Ok(Asked::Report(report)) => match push_report_in(alloc, form, state, &report, out) {
             Ok(()) => Ok(()),
             Err(cause) => Err(Refusal::Plain(cause)),

@@ -12,7 +12,7 @@ ghost use Rattle.treasury_core.specs.declared.command.Command.TheVariants.{Enter
 ghost use Rattle.treasury_core.specs.Step.{reply, step};
 ghost use Rattle.treasury_core.specs.Run.{IsRun as IsCommandRun, state_after};
 ghost use Rattle.treasury_requests.specs.declared.request.Request.TheVariants.{Import};
-ghost use Rattle.treasury_told.specs.Uneven.{IsReadImport};
+ghost use Rattle.treasury_reasons.specs.Uneven.{IsReadImport};
 ghost use Rattle.treasury_api.specs.declared.report.Report.{Report};
 ghost use Rattle.treasury_api.specs.Transcript.{IsTranscript};
 ghost use Rattle.treasury_api.specs.Step.{Standing, after_asked, Answers};
@@ -90,7 +90,7 @@ pub fn lists_law<L: Ledger>(state: &State<L>)
 }
 
 /// A law of an import that is answered with counts: the state after it reads its journal as the same transactions. So
-/// `push_notes` tells all that there is to tell of it. Costs nothing.
+/// the clause `entered` of `notes_of` holds of it. Costs nothing.
 pub fn taken_law()
     ensures { (f : Federation) (name journal : List ℕ) (file : List Located) (new repeated : ℕ)
         → Reads f.styles journal file → reply f (Enter name file) ≡ Ok (Entered new repeated)

@@ -3,8 +3,7 @@
 //! No clause speaks of the listener, so one proof shows that what a run answers and keeps does not depend on who hears
 //! of it. That what is explained is true, and that the number is that of the line, is shown by sessions.
 
-ghost use Rattle.treasury_requests.specs.Request.{HasDayNumbers};
-
+use crate::telling::Grounds;
 use book_core::{DayLedger, Refusal};
 use money_core::Cause;
 use std::alloc::Global;
@@ -16,18 +15,16 @@ pub trait Listener {
     /// A line begins, which may have blanks alone.
     fn begin_line(&mut self);
 
-    /// The request of the line is about to be answered. The state is lent if memory holds it.
-    fn ask(&mut self, state: Option<&State<DayLedger>>, request: &Spelled);
-
-    /// The request was answered, with a refusal or without; the state is the one after it.
+    /// The request was answered, with a refusal or without. The state is the one after it, and is lent if memory holds
+    /// it.
     fn tell(
         &mut self,
         alloc: Global,
         state: Option<&State<DayLedger>>,
         request: &Spelled,
+        grounds: &Grounds,
         refusal: Option<&Refusal>,
-    )
-        requires { HasDayNumbers request.now.request };
+    );
 
     /// The line of these bytes was refused by this cause before it could ask for anything.
     fn tell_unasked(&mut self, alloc: Global, line: &[u8], cause: Cause);
@@ -43,13 +40,12 @@ pub struct NoListener;
 impl Listener for NoListener {
     fn begin_line(&mut self) {}
 
-    fn ask(&mut self, _state: Option<&State<DayLedger>>, _request: &Spelled) {}
-
     fn tell(
         &mut self,
         _alloc: Global,
         _state: Option<&State<DayLedger>>,
         _request: &Spelled,
+        _grounds: &Grounds,
         _refusal: Option<&Refusal>,
     ) {}
 

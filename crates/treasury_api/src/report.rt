@@ -1,8 +1,8 @@
 //! Reports that are asked for, and their lines.
 
 ghost use Rattle.std.specs.Prelude.{◌≡◌, ◌↔◌, ◌⊎◌, ◌++◌, false, Err, OnOk, OnErr, IfErr, option_copied};
-ghost use Rattle.json_text.specs.JsonText.{rows_text};
-ghost use Rattle.treasury_api.specs.Report.{report_text, report_rows, report_json, report_in, has_its_branch};
+ghost use Rattle.treasury_reports.specs.Rows.{report_as};
+ghost use Rattle.treasury_api.specs.Report.{report_rows, report_json, report_in, has_its_branch};
 
 use crate::answers::push_pieces;
 use crate::laws::lists_law;
@@ -12,9 +12,8 @@ use money_core::{Cause, Day, Text};
 use std::alloc::Global;
 use treasury_core::State;
 use treasury_reports::{
-    accounts_json, accounts_report, balance_json, balance_report, branches_json, branches_report,
-    commodities_json, commodities_report, journal_json, journal_report, register_json,
-    register_report, transfers_json, transfers_report, transit_json, transit_report,
+    Layout, accounts_report, balance_report_in, branches_report, commodities_report,
+    journal_report_in, register_report_in, transfers_report, transit_report_in,
 };
 
 /// A report that is asked for.
@@ -64,78 +63,45 @@ fn text_of(text: &Option<Text>) -> Option<&str>
     }
 }
 
-/// Appends the lines of a report.
-///
-/// Refuses with 20 where the branch that it is on is not there, or with 40; the vector is then as it was.
-fn push_report<L: Ledger>(
-    alloc: Global,
-    state: &State<L>,
-    report: &Report,
-    out: &mut Vec<u8>,
-) -> Result<(), Cause>
-    ensures ok { OnOk result (out.new.items ≡ out.old.items ++ report_text state.now report.now) }
-    ensures unknown { (result ≡ Err Cause.UnknownBranch) ↔ (has_its_branch state.now report.now ≡ false) }
-    ensures err { OnErr result (out.new.items ≡ out.old.items) }
-    ensures causes { IfErr result (λ cause. (cause ≡ Cause.UnknownBranch) ⊎ (cause ≡ Cause.OutOfMemory)) }
-{
-    lists_law(state);
-    match report {
-        Report::Balance { branch, day } => balance_report(alloc, state, branch.as_str(), *day, out),
-        Report::Register {
-            branch,
-            account,
-            tag,
-        } => register_report(
-            alloc,
-            state,
-            branch.as_str(),
-            account.as_str(),
-            text_of(tag),
-            out,
-        ),
-        Report::Transit { day } => transit_report(alloc, state, *day, out),
-        Report::Journal { branch } => journal_report(alloc, state, branch.as_str(), out),
-        Report::Branches => branches_report(alloc, state, out),
-        Report::Commodities => commodities_report(alloc, state, out),
-        Report::Accounts { branch } => accounts_report(alloc, state, branch.as_str(), out),
-        Report::Transfers { day } => transfers_report(alloc, state, *day, out),
-    }
-}
-
-/// Appends the rows of a report, in JSON.
+/// Appends the rows of a report, in a layout.
 ///
 /// Refuses with 20 where the branch that it is on is not there, or with 40; the vector is then as it was.
 fn push_rows<L: Ledger>(
     alloc: Global,
     state: &State<L>,
     report: &Report,
+    layout: Layout,
     out: &mut Vec<u8>,
 ) -> Result<(), Cause>
-    ensures ok { OnOk result (out.new.items ≡ out.old.items ++ rows_text (report_rows state.now report.now)) }
+    ensures ok { OnOk result (out.new.items ≡ out.old.items ++ report_as layout (report_rows state.now report.now)) }
     ensures unknown { (result ≡ Err Cause.UnknownBranch) ↔ (has_its_branch state.now report.now ≡ false) }
     ensures err { OnErr result (out.new.items ≡ out.old.items) }
     ensures causes { IfErr result (λ cause. (cause ≡ Cause.UnknownBranch) ⊎ (cause ≡ Cause.OutOfMemory)) }
 {
+    lists_law(state);
     match report {
-        Report::Balance { branch, day } => balance_json(alloc, state, branch.as_str(), *day, out),
+        Report::Balance { branch, day } => {
+            balance_report_in(alloc, state, branch.as_str(), *day, layout, out)
+        }
         Report::Register {
             branch,
             account,
-            tag: wanted,
-        } => register_json(
+            tag,
+        } => register_report_in(
             alloc,
             state,
             branch.as_str(),
             account.as_str(),
-            text_of(wanted),
+            text_of(tag),
+            layout,
             out,
         ),
-        Report::Transit { day } => transit_json(alloc, state, *day, out),
-        Report::Journal { branch } => journal_json(alloc, state, branch.as_str(), out),
-        Report::Branches => branches_json(alloc, state, out),
-        Report::Commodities => commodities_json(alloc, state, out),
-        Report::Accounts { branch } => accounts_json(alloc, state, branch.as_str(), out),
-        Report::Transfers { day } => transfers_json(alloc, state, *day, out),
+        Report::Transit { day } => transit_report_in(alloc, state, *day, layout, out),
+        Report::Journal { branch } => journal_report_in(alloc, state, branch.as_str(), layout, out),
+        Report::Branches => branches_report(alloc, state, layout, out),
+        Report::Commodities => commodities_report(alloc, state, layout, out),
+        Report::Accounts { branch } => accounts_report(alloc, state, branch.as_str(), layout, out),
+        Report::Transfers { day } => transfers_report(alloc, state, *day, layout, out),
     }
 }
 
@@ -155,7 +121,7 @@ fn push_report_json<L: Ledger>(
 {
     // The rows come first, so that an unknown branch is refused whether or not there is memory.
     let mut rows = Vec::new(alloc);
-    match push_rows(alloc, state, report, &mut rows) {
+    match push_rows(alloc, state, report, Layout::Json, &mut rows) {
         Ok(()) => {}
         Err(cause) => return Err(cause),
     }
@@ -181,7 +147,7 @@ pub fn push_report_in<L: Ledger>(
     ensures causes { IfErr result (λ cause. (cause ≡ Cause.UnknownBranch) ⊎ (cause ≡ Cause.OutOfMemory)) }
 {
     match form {
-        Form::Text => push_report(alloc, state, report, out),
+        Form::Text => push_rows(alloc, state, report, Layout::Text, out),
         Form::Json => push_report_json(alloc, state, report, out),
     }
 }

@@ -11,10 +11,11 @@ ghost use Rattle.treasury_api.specs.Serving.{end_of_report};
 ghost use Rattle.treasury_api.specs.WebReply.{cause_of};
 ghost use Rattle.treasury_api.specs.WebServing.{IsLineBy, IsToldBy};
 
-use crate::answering::answer;
+use crate::answering::answer_ahead;
 use crate::answers::{MOST_PLAIN, answer_line, room_for_line};
 use crate::lines::{Machine, run_machine};
 use crate::listener::{Listener, NoListener};
+use crate::telling::Grounds;
 use book_core::Refusal;
 use http_request::Form;
 use journal_format::reading_law;
@@ -46,7 +47,7 @@ pub struct Line {
 }
 
 /// Why it is refused.
-fn cause_of(refusal: &Refusal) -> Cause
+pub(crate) fn cause_of(refusal: &Refusal) -> Cause
     ensures { result ≡ cause_of refusal.now }
 {
     match refusal {
@@ -164,18 +165,19 @@ impl<S: Alter> Machine for Treasury<S> {
                 return Ok(refuse(alloc, self, Refusal::Plain(cause), room));
             }
         };
-        listener.ask(self.state(), &request);
         let mut text = Vec::new(alloc);
-        match answer(alloc, Form::Text, &request, self, &mut text) {
+        let mut grounds = Grounds::before(self, &request.request);
+        let added = &mut grounds.added;
+        match answer_ahead(alloc, Form::Text, &request, self, &mut text, added) {
             Ok(()) => {
-                listener.tell(alloc, self.state(), &request, None);
+                listener.tell(alloc, self.state(), &request, &grounds, None);
                 match end_report(alloc, &request.request, &mut text) {
                     Ok(()) => Ok(text),
                     Err(_) => Ok(refuse(alloc, self, Refusal::Plain(Cause::OutOfMemory), room)),
                 }
             }
             Err(refusal) => {
-                listener.tell(alloc, self.state(), &request, Some(&refusal));
+                listener.tell(alloc, self.state(), &request, &grounds, Some(&refusal));
                 Ok(refuse(alloc, self, refusal, room))
             }
         }

@@ -1,16 +1,21 @@
 //! What is said beside the answer to a request: why it is refused, or what may have been meant otherwise.
 
-ghost use Rattle.treasury_requests.specs.Request.{HasDayNumbers};
+ghost use Rattle.std.specs.Prelude.{◌≡◌, None, IfSome};
+ghost use Rattle.std.specs.Option.{option_map};
+ghost use Rattle.treasury_notes.specs.RequestNotes.{held_before};
+ghost use Rattle.treasury_api.specs.Beside.{IsReason, AreNotesBy, IsNoted, IsReasonOrNotes, IsEnded, IsSaidBeside};
 
-use crate::foreseeing::additions_ahead;
+use crate::running::cause_of;
 use book_core::{Ledger, Refusal};
+use sqlite::Alter;
 use std::alloc::Global;
-use treasury_core::State;
-use treasury_requests::Spelled;
-use treasury_told::dry_run::push_dry_run_notes;
-use treasury_told::ended::drop_cut_line;
-use treasury_told::explain::explain;
-use treasury_told::notes::{HeldBefore, push_notes};
+use treasury_core::{Delta, State};
+use treasury_messages::{Message, sentence_text, text_of};
+use treasury_notes::dry_run::dry_run_notes;
+use treasury_notes::notes::{HeldBefore, held_before, notes_of};
+use treasury_reasons::explain::explain;
+use treasury_requests::{Request, Spelled};
+use treasury_store::Treasury;
 
 /// The last line of what is said of a dry run.
 pub const NOTHING_ENTERED: &str = "treasury: a dry run: nothing was entered\n";
@@ -18,94 +23,128 @@ pub const NOTHING_ENTERED: &str = "treasury: a dry run: nothing was entered\n";
 /// How the journal of an import is called that has no file: by its key.
 pub const JOURNAL: &str = "journal";
 
-/// Why a request is refused in this state, as far as there is memory to say it. `source` names the journal.
-pub fn reason_of<L: Ledger>(
-    alloc: Global,
-    state: Option<&State<L>>,
-    request: &Spelled,
-    source: &str,
-    refusal: &Refusal,
-) -> Vec<u8> {
-    let mut reason = Vec::new(alloc);
-    if let Some(state) = state {
-        let _ = explain(alloc, state, &request.request, source, refusal, &mut reason);
-    }
-    drop_cut_line(&mut reason);
-    reason
+/// What messages on a request rest on, beside the request and the state.
+#[derive(Drop)]
+pub struct Grounds {
+    /// What was held before it was answered, if memory held the state.
+    pub held: Option<HeldBefore>,
+    /// What it would add as a dry run, if it is one and not refused.
+    pub added: Option<Delta>,
 }
 
-/// What is said of a dry run that is not refused, as far as there is memory for it.
-fn notes_ahead<L: Ledger>(
-    alloc: Global,
-    state: Option<&State<L>>,
-    request: &Spelled,
-    source: &str,
-) -> Vec<u8>
-    requires { HasDayNumbers request.now.request }
-{
-    let mut notes = Vec::new(alloc);
-    if let Some(state) = state {
-        if let Some(added) = additions_ahead(alloc, state, request) {
-            let (asked, additions) = (&request.request, added.additions());
-            let _ = push_dry_run_notes(alloc, state, asked, source, additions, &mut notes);
+impl Grounds {
+    /// Before the request is answered.
+    pub fn before<S: Alter>(treasury: &Treasury<S>, request: &Request) -> Grounds
+        ensures held { result.held ≡ option_map (λ f. held_before f request.now) treasury.now.held }
+        ensures added { result.added ≡ None }
+    {
+        Grounds {
+            held: held_before(treasury.state(), request),
+            added: None,
         }
     }
-    notes
 }
 
-/// What is noted of a request that was answered, as far as there is memory for it.
-fn notes_after<L: Ledger>(
+/// Why a request is refused in this state: all that there is to tell, or, where memory is refused for that, the
+/// sentence alone. `source` names the journal.
+fn reason_of<L: Ledger>(
     alloc: Global,
-    state: Option<&State<L>>,
-    request: &Spelled,
+    state: &State<L>,
+    request: &Request,
     source: &str,
-    held: Option<HeldBefore>,
-) -> Vec<u8> {
-    let mut notes = Vec::new(alloc);
-    if let (Some(state), Some(held)) = (state, held) {
-        let _ = push_notes(alloc, state, &request.request, source, held, &mut notes);
-    }
-    notes
-}
-
-/// What is said beside an answer that is no refusal, as far as there is memory for it. The state is the one after the
-/// request, and `held` is what was held before it. `source` names the journal.
-pub fn notes_on<L: Ledger>(
-    alloc: Global,
-    state: Option<&State<L>>,
-    request: &Spelled,
-    source: &str,
-    held: Option<HeldBefore>,
+    refusal: &Refusal,
 ) -> Vec<u8>
-    requires { HasDayNumbers request.now.request }
+    ensures { IsReason state.now request.now source.now refusal.now result.items }
 {
-    let mut notes = if request.terms.is_dry_run {
-        notes_ahead(alloc, state, request, source)
-    } else {
-        notes_after(alloc, state, request, source, held)
-    };
-    drop_cut_line(&mut notes);
-    notes
+    match explain(alloc, state, request, source, refusal) {
+        Ok(said) => text_of(alloc, said.as_slice()),
+        Err(_) => sentence_text(alloc, cause_of(refusal)),
+    }
 }
 
-/// What is said beside the answer to a request whose journal has no file, as far as there is memory for it: why it is
-/// refused, or else its notes; and of a dry run that nothing was entered. The state is the one after the request, and
-/// `held` is what was held before it.
+/// What is noted of a request that is not refused, if there is memory for it: of a dry run by what it would add, of
+/// another one by what was held before.
+fn noted<L: Ledger>(
+    alloc: Global,
+    state: &State<L>,
+    request: &Request,
+    source: &str,
+    grounds: &Grounds,
+) -> Option<Vec<Message>>
+    ensures { IfSome result (λ said.
+        AreNotesBy state.now request.now source.now grounds.now.added grounds.now.held said.items) }
+{
+    match &grounds.added {
+        Some(added) => match dry_run_notes(alloc, state, request, source, added.additions()) {
+            Ok(said) => Some(said),
+            Err(_) => None,
+        },
+        None => match notes_of(alloc, state, request, source, grounds.held?) {
+            Ok(said) => Some(said),
+            Err(_) => None,
+        },
+    }
+}
+
+/// What is said beside an answer that is no refusal: all its notes, if there is memory for them. The state is the one
+/// after the request. `source` names the journal.
+fn notes_on<L: Ledger>(
+    alloc: Global,
+    state: &State<L>,
+    request: &Request,
+    source: &str,
+    grounds: &Grounds,
+) -> Vec<u8>
+    ensures { IsNoted state.now request.now source.now grounds.now result.items }
+{
+    match noted(alloc, state, request, source, grounds) {
+        Some(said) => text_of(alloc, said.as_slice()),
+        None => Vec::new(alloc),
+    }
+}
+
+/// Appends that nothing was entered, if the request is a dry run and there is memory to say it.
+fn push_dry_run(request: &Spelled, said: &mut Vec<u8>)
+    ensures { IsEnded request.now said.old.items said.new.items }
+{
+    if request.terms.is_dry_run {
+        let _ = said.extend_from_slice(NOTHING_ENTERED.as_bytes());
+    }
+}
+
+/// Why a request is refused, or else its notes, if memory holds the state.
+fn reason_or_notes<L: Ledger>(
+    alloc: Global,
+    state: Option<&State<L>>,
+    request: &Request,
+    source: &str,
+    grounds: &Grounds,
+    refusal: Option<&Refusal>,
+) -> Vec<u8>
+    ensures { IsReasonOrNotes (option_map (λ s. s.now) state.entry) request.now source.now grounds.now
+        (option_map (λ r. r.now) refusal.entry) result.items }
+{
+    match (state, refusal) {
+        (Some(state), Some(refusal)) => reason_of(alloc, state, request, source, refusal),
+        (Some(state), None) => notes_on(alloc, state, request, source, grounds),
+        (None, _) => Vec::new(alloc),
+    }
+}
+
+/// What is said beside the answer to a request: why it is refused, or else its notes; and of a dry run that nothing was
+/// entered. The state is the one after the request, and `source` names the journal.
 pub fn said_beside<L: Ledger>(
     alloc: Global,
     state: Option<&State<L>>,
     request: &Spelled,
-    held: Option<HeldBefore>,
+    source: &str,
+    grounds: &Grounds,
     refusal: Option<&Refusal>,
 ) -> Vec<u8>
-    requires { HasDayNumbers request.now.request }
+    ensures { IsSaidBeside (option_map (λ s. s.now) state.entry) request.now source.now grounds.now
+        (option_map (λ r. r.now) refusal.entry) result.items }
 {
-    let mut said = match refusal {
-        Some(refusal) => reason_of(alloc, state, request, JOURNAL, refusal),
-        None => notes_on(alloc, state, request, JOURNAL, held),
-    };
-    if request.terms.is_dry_run {
-        let _ = said.extend_from_slice(NOTHING_ENTERED.as_bytes());
-    }
+    let mut said = reason_or_notes(alloc, state, &request.request, source, grounds, refusal);
+    push_dry_run(request, &mut said);
     said
 }

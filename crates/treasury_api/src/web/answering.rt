@@ -10,10 +10,10 @@ ghost use Rattle.treasury_api.specs.WebReply.{status_of, form_of_reply};
 ghost use Rattle.treasury_api.specs.Web.{IsRefusal44, IsBodyIn, AnswersOn};
 ghost use Rattle.treasury_api.specs.WebServing.{IsUnaskedJson, code_of, IsSought, sought_of, SeeksDays, LeavesReplied};
 
-use crate::answering::answer;
+use crate::answering::{answer, answer_ahead};
 use crate::answers::{MOST_PLAIN, answer_line};
 use crate::running::refuse_by;
-use crate::telling::said_beside;
+use crate::telling::{Grounds, JOURNAL, said_beside};
 use crate::web::branch::is_command_of;
 use crate::web::object::{
     MOST_JSON, done_in_json, entries_told, refuse_in_json, refuse_plain_in_json, told_unasked,
@@ -22,13 +22,11 @@ use crate::web::reply::Reply;
 use crate::web::status::{Status, status_of};
 use book_core::Refusal;
 use http_request::{Call, Form, Received};
-use journal_lines::read_date;
 use money_core::{Cause, Items, Styles, Text};
 use sqlite::Alter;
 use std::alloc::Global;
-use treasury_requests::{Request, Spelled, Terms, read_line};
+use treasury_requests::{Given, Request, Spelled, Terms, Word, read_line, request_by};
 use treasury_store::Treasury;
-use treasury_told::notes::held_before;
 
 /// What a call asks for.
 enum Sought {
@@ -80,14 +78,22 @@ fn report(request: Request) -> Sought
     })
 }
 
-/// The request for the balances of a branch, where the date is one.
-fn balance_at(branch: Text, date: Text) -> Sought
-    ensures sought { IsSought (Call.Balance branch date) result }
-    ensures days { SeeksDays result }
+/// What is given at the keys of a report asks for; nothing where it makes no request for one.
+fn sought_by_path(alloc: Global, word: Word, given: &Items<Given>) -> Result<Sought, Cause>
+    ensures sought { IfOk result (IsSought (Call.Report word given.now)) }
+    ensures days { IfOk result SeeksDays }
+    ensures memory { IsOkUnless result Cause.OutOfMemory }
 {
-    match read_date(date.as_str().as_bytes()) {
-        Some(day) => report(Request::Balance { branch, day }),
-        None => Sought::NoRequest,
+    match request_by(alloc, word, given) {
+        Ok(request) => {
+            if request.is_report() {
+                Ok(report(request))
+            } else {
+                Ok(Sought::NoRequest)
+            }
+        }
+        Err(Cause::Request) => Ok(Sought::NoRequest),
+        Err(_) => Err(Cause::OutOfMemory),
     }
 }
 
@@ -102,28 +108,7 @@ fn sought_by(alloc: Global, call: Call) -> Result<Sought, Cause>
         Call::Foreign => Ok(Sought::Forbidden),
         Call::Nowhere => Ok(Sought::Nowhere),
         Call::Command { branch, body } => sought_by_body(alloc, branch, body),
-        Call::Balance { branch, date } => Ok(balance_at(branch, date)),
-        Call::Journal { branch } => Ok(report(Request::Journal { branch })),
-        Call::Register {
-            branch,
-            account,
-            tag,
-        } => Ok(report(Request::Register {
-            branch,
-            account,
-            tag,
-        })),
-        Call::Transit { date } => match read_date(date.as_str().as_bytes()) {
-            Some(day) => Ok(report(Request::Transit { day })),
-            None => Ok(Sought::NoRequest),
-        },
-        Call::Branches => Ok(report(Request::Branches)),
-        Call::Commodities => Ok(report(Request::Commodities)),
-        Call::Accounts { branch } => Ok(report(Request::Accounts { branch })),
-        Call::Transfers { date } => match read_date(date.as_str().as_bytes()) {
-            Some(day) => Ok(report(Request::Transfers { day })),
-            None => Ok(Sought::NoRequest),
-        },
+        Call::Report { word, given } => sought_by_path(alloc, word, &given),
     }
 }
 
@@ -256,17 +241,18 @@ fn answer_in_json<S: Alter>(
         (λ reply. code_of result.status ≡ status_of reply) treasury.new }
     ensures leaves { LeavesReplied S.Store treasury.old request.now (code_of result.status) treasury.new }
 {
-    let held = held_before(treasury.state(), &request.request);
     let mut text = Vec::new(alloc);
-    match answer(alloc, Form::Json, request, treasury, &mut text) {
+    let mut grounds = Grounds::before(treasury, &request.request);
+    let added = &mut grounds.added;
+    match answer_ahead(alloc, Form::Json, request, treasury, &mut text, added) {
         Ok(()) => Reply {
             status: Status::Done,
             form: Form::Json,
-            body: done_in_json(alloc, request, treasury, held, text, room),
+            body: done_in_json(alloc, request, treasury, &grounds, text, room),
         },
         Err(refusal) => {
             let state = treasury.state();
-            let told = said_beside(alloc, state, request, held, Some(&refusal));
+            let told = said_beside(alloc, state, request, JOURNAL, &grounds, Some(&refusal));
             let entries = entries_told(state, request);
             let line = refuse_by(alloc, treasury, refusal, line);
             let object = refuse_in_json(&line, told.as_slice(), entries, room);

@@ -1,17 +1,20 @@
 //! Replies in JSON: the object of an answer, if it is none of a report.
 
-ghost use Rattle.std.specs.Prelude.{◌≡◌, ◌⊎◌, ◌≤◌, ◌+◌, ◌-◌, ◌++◌, [], true, false, length, take, vec_capacity};
+ghost use Rattle.std.specs.Prelude.{◌≡◌, ◌⊎◌, ◌≤◌, ◌+◌, ◌-◌, ◌++◌, ℕ, List, [], true, false, length, take};
+ghost use Rattle.std.specs.Prelude.{vec_capacity};
 ghost use Rattle.std.specs.Prelude.{OnOk, OnErr, IsOk, IsTrue, IfSome, None, codes, decimal, option_map};
 ghost use Rattle.std.specs.Str.{is_utf8};
 ghost use Rattle.json_text.specs.JsonText.{object_text};
 ghost use Rattle.json_text.specs.Members.{members_of};
-ghost use Rattle.treasury_requests.specs.Request.{HasDayNumbers, is_report};
-ghost use Rattle.treasury_api.specs.WebServing.{done_json, refusal_json, refused_json, IsJsonDone, IsJsonRefused};
-ghost use Rattle.treasury_api.specs.WebServing.{IsJsonRefusal, IsJsonTold, IsToldOfBody, entries_told};
+ghost use Rattle.treasury_requests.specs.Request.{is_report};
+ghost use Rattle.treasury_api.specs.JsonReply.{done_json, refusal_json, refused_json};
+ghost use Rattle.treasury_api.specs.Beside.{IsSaidBeside, IsJsonNoted, IsJsonTold};
+ghost use Rattle.treasury_api.specs.WebServing.{IsJsonDone, IsJsonRefused, IsJsonRefusal, IsJsonToldOf, IsToldOfBody};
+ghost use Rattle.treasury_api.specs.WebServing.{entries_told};
 
 use crate::asking::entries_asked;
 use crate::running::Line;
-use crate::telling::said_beside;
+use crate::telling::{Grounds, JOURNAL, said_beside};
 use book_core::Ledger;
 use itoa::Buffer;
 use json_text::{Member, MemberValue, push_object};
@@ -22,7 +25,6 @@ use treasury_core::State;
 use treasury_messages::{sentence, sentence_text, unasked_text};
 use treasury_requests::Spelled;
 use treasury_store::Treasury;
-use treasury_told::notes::HeldBefore;
 
 /// The object of a plain answer, of which nothing is told or noted, has at most that many bytes.
 pub const MOST_JSON: usize = 2048;
@@ -183,7 +185,8 @@ fn done_object(line: &[u8], noted: &[u8], entries: Option<usize>, room: Vec<u8>)
     requires line { length line.now ≤ MOST_LINE }
     requires empty { room.items ≡ [] }
     requires room { MOST_JSON ≤ vec_capacity room }
-    ensures { IsJsonDone line.now entries result.items }
+    ensures done { IsJsonDone line.now entries result.items }
+    ensures noted { IsJsonNoted line.now noted.now entries result.items }
 {
     let mut body = room;
     match push_done(line, utf8_of(noted), entries, &mut body) {
@@ -193,6 +196,19 @@ fn done_object(line: &[u8], noted: &[u8], entries: Option<usize>, room: Vec<u8>)
             Err(_) => unreachable!(),
         },
     }
+}
+
+/// The object of an answer that is no refusal, in room for a plain one, by its text, of at most 64 bytes.
+fn object_of(text: &[u8], noted: &[u8], entries: Option<usize>, room: Vec<u8>) -> Vec<u8>
+    requires empty { room.items ≡ [] }
+    requires room { MOST_JSON ≤ vec_capacity room }
+    ensures done { length text.now ≤ 64
+        → IsJsonDone (take (length text.now - 1) text.now) entries result.items }
+    ensures noted { length text.now ≤ 64
+        → IsJsonNoted (take (length text.now - 1) text.now) noted.now entries result.items }
+{
+    let line = line_of(text);
+    done_object(&line[..line.len().min(MOST_LINE)], noted, entries, room)
 }
 
 /// How many entries the branch has that a dry run is on, as far as the state is in memory.
@@ -206,36 +222,34 @@ pub fn entries_told<L: Ledger>(state: Option<&State<L>>, request: &Spelled) -> O
     }
 }
 
-/// The body of a reply in JSON to a request that is not refused, and was answered by this text. `held` is what was
-/// held before it, and `room` is for the object of a plain answer. A report's object is its text.
+/// The body of a reply in JSON to a request that is not refused, and was answered by this text. `room` is for the
+/// object of a plain answer. A report's object is its text.
 pub fn done_in_json<S: Alter>(
     alloc: Global,
     request: &Spelled,
     treasury: &Treasury<S>,
-    held: Option<HeldBefore>,
+    grounds: &Grounds,
     text: Vec<u8>,
     room: Vec<u8>,
 ) -> Vec<u8>
-    requires days { HasDayNumbers request.now.request }
     requires empty { room.items ≡ [] }
     requires room { MOST_JSON ≤ vec_capacity room }
     ensures report { IsTrue (is_report request.now.request) → result.items ≡ text.items }
     ensures other { is_report request.now.request ≡ false → length text.items ≤ 64
         → IsJsonDone (take (length text.items - 1) text.items) (entries_told treasury.now.held request.now)
         result.items }
+    // Its notes are those of the request, which says of what journal it is by the key.
+    ensures noted { is_report request.now.request ≡ false → length text.items ≤ 64 → (noted : List ℕ)
+        × IsSaidBeside treasury.now.held request.now JOURNAL.now grounds.now None noted
+        × IsJsonNoted (take (length text.items - 1) text.items) noted (entries_told treasury.now.held request.now)
+        result.items }
 {
     if request.request.is_report() {
         return text;
     }
-    let noted = said_beside(alloc, treasury.state(), request, held, None);
-    let line = line_of(text.as_slice());
+    let noted = said_beside(alloc, treasury.state(), request, JOURNAL, grounds, None);
     let entries = entries_told(treasury.state(), request);
-    done_object(
-        &line[..line.len().min(MOST_LINE)],
-        noted.as_slice(),
-        entries,
-        room,
-    )
+    object_of(text.as_slice(), noted.as_slice(), entries, room)
 }
 
 /// Appends the object of a refusal, by its line, its cause, what is told, and the entries of its branch; nothing is
@@ -281,7 +295,8 @@ pub fn refuse_plain_in_json(line: &[u8], cause: Cause, told: &[u8], room: Vec<u8
 pub fn refuse_in_json(line: &Line, told: &[u8], entries: Option<usize>, room: Vec<u8>) -> Line
     requires empty { room.items ≡ [] }
     requires room { MOST_JSON ≤ vec_capacity room }
-    ensures { IsJsonRefusal line.now.text.items line.now.cause entries result.cause result.text.items }
+    ensures refused { IsJsonRefusal line.now.text.items line.now.cause entries result.cause result.text.items }
+    ensures told { IsJsonToldOf line.now.text.items line.now.cause told.now entries result.cause result.text.items }
 {
     let mut text = room;
     match push_refused_at_least(

@@ -12,45 +12,46 @@ returns-in-Err-read_within_memory-clause-ok g c =
 
 pub returns-in-Ok-end_report-clause-ok : goal.returns-in-Ok-end_report-clause-ok
 returns-in-Ok-end_report-clause-ok g c =
-    answered_line_served g.S.Store c.args.self.now c.answer.new.treasury c.args.line.now c.answer.new.out.items _
-    c.in-Ok-read_within_memory.request c.answer.result c.in-Ok-answer.field-0 c.in-Ok-read_within_memory.ensures.ok
-    c.in-Ok-answer.is
+    answered_line_served g.S.Store c.args.self.now c.answer_ahead.new.treasury c.args.line.now
+    c.answer_ahead.new.out.items _
+    c.in-Ok-read_within_memory.request c.answer_ahead.result c.in-Ok-answer_ahead.field-0
+    c.in-Ok-read_within_memory.ensures.ok c.in-Ok-answer_ahead.is
     (record {
-      database = c.answer.ensures.database;
-      closed = c.answer.ensures.closed;
-      left = c.answer.ensures.left;
+      database = c.answer_ahead.ensures.database;
+      closed = c.answer_ahead.ensures.closed;
+      left = c.answer_ahead.ensures.left;
     })
     (λ k f of. subst (λ (xs : List ℕ).
-    IsAnswered g.S.Store c.args.self.now.store.failed c.answer.new.treasury f c.in-Ok-read_within_memory.request
-    c.answer.result xs c.answer.new.out.items) c.new-text.ensures.items (c.answer.ensures.replies k f of))
-    c.in-Ok-end_report.ensures.ok
+    IsAnswered g.S.Store c.args.self.now.store.failed c.answer_ahead.new.treasury f c.in-Ok-read_within_memory.request
+    c.answer_ahead.result xs c.answer_ahead.new.out.items) c.new-text.ensures.items
+    (c.answer_ahead.ensures.replies k f of)) c.in-Ok-end_report.ensures.ok
 
 pub returns-in-Err-end_report-clause-ok : goal.returns-in-Err-end_report-clause-ok
 returns-in-Err-end_report-clause-ok g c =
-    served_memory g.S.Store c.args.self.now c.answer.new.treasury c.args.line.now c.answer.new.out.items _
-    c.in-Ok-read_within_memory.request c.answer.result c.in-Ok-answer.field-0 c.in-Ok-read_within_memory.ensures.ok
-    c.in-Ok-answer.is
+    served_memory g.S.Store c.args.self.now c.answer_ahead.new.treasury c.args.line.now c.answer_ahead.new.out.items _
+    c.in-Ok-read_within_memory.request c.answer_ahead.result c.in-Ok-answer_ahead.field-0
+    c.in-Ok-read_within_memory.ensures.ok c.in-Ok-answer_ahead.is
     (record {
-      database = c.answer.ensures.database;
-      closed = c.answer.ensures.closed;
-      left = c.answer.ensures.left;
+      database = c.answer_ahead.ensures.database;
+      closed = c.answer_ahead.ensures.closed;
+      left = c.answer_ahead.ensures.left;
     })
     (λ k f of. subst (λ (xs : List ℕ).
-    IsAnswered g.S.Store c.args.self.now.store.failed c.answer.new.treasury f c.in-Ok-read_within_memory.request
-    c.answer.result xs c.answer.new.out.items) c.new-text.ensures.items (c.answer.ensures.replies k f of))
-    c.in-Err-end_report.ensures.err c.refuse-in-Err-end_report.ensures
+    IsAnswered g.S.Store c.args.self.now.store.failed c.answer_ahead.new.treasury f c.in-Ok-read_within_memory.request
+    c.answer_ahead.result xs c.answer_ahead.new.out.items) c.new-text.ensures.items
+    (c.answer_ahead.ensures.replies k f of)) c.in-Err-end_report.ensures.err c.refuse-in-Err-end_report.ensures
 
-pub returns-in-Err-answer-clause-ok : goal.returns-in-Err-answer-clause-ok
-returns-in-Err-answer-clause-ok g c =
-    served_refusal g.S.Store c.args.self.now c.answer.new.treasury c.args.line.now c.answer.new.out.items _
-    c.in-Ok-read_within_memory.request c.answer.result c.in-Err-answer.refusal c.in-Ok-read_within_memory.ensures.ok
-    c.in-Err-answer.is
+pub returns-in-Err-answer_ahead-clause-ok : goal.returns-in-Err-answer_ahead-clause-ok
+returns-in-Err-answer_ahead-clause-ok g c =
+    served_refusal g.S.Store c.args.self.now c.answer_ahead.new.treasury c.args.line.now c.answer_ahead.new.out.items _
+    c.in-Ok-read_within_memory.request c.answer_ahead.result c.in-Err-answer_ahead.refusal
+    c.in-Ok-read_within_memory.ensures.ok c.in-Err-answer_ahead.is
     (record {
-      database = c.answer.ensures.database;
-      closed = c.answer.ensures.closed;
-      left = c.answer.ensures.left;
+      database = c.answer_ahead.ensures.database;
+      closed = c.answer_ahead.ensures.closed;
+      left = c.answer_ahead.ensures.left;
     })
     (λ k f of. subst (λ (xs : List ℕ).
-    IsAnswered g.S.Store c.args.self.now.store.failed c.answer.new.treasury f c.in-Ok-read_within_memory.request
-    c.answer.result xs c.answer.new.out.items) c.new-text.ensures.items (c.answer.ensures.replies k f of))
-    c.refuse-in-Err-answer.ensures
+    IsAnswered g.S.Store c.args.self.now.store.failed c.answer_ahead.new.treasury f c.in-Ok-read_within_memory.request
+    c.answer_ahead.result xs c.answer_ahead.new.out.items) c.new-text.ensures.items
+    (c.answer_ahead.ensures.replies k f of)) c.refuse-in-Err-answer_ahead.ensures

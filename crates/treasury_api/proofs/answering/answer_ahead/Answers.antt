@@ -15,13 +15,13 @@ use Rattle.treasury_api.proofs.AnswerLemmas.{answered_unheld, held_unfailed, ans
 use Rattle.treasury_api.proofs.AnswerLemmas.{command_fits, refused_texts}
 use Rattle.treasury_api.proofs.AnswerLemmas.{dry_run_fits}
 use Rattle.treasury_api.proofs.ForeseenLemmas.{dry_run_replied, foreseen_listed, foreseen_printable, foreseen_unfailed}
-use Rattle.treasury_api.proofs.ForeseenLemmas.{foreseen_same}
+use Rattle.treasury_api.proofs.ForeseenLemmas.{foreseen_same, added_ahead}
 use Rattle.treasury_api.proofs.AnswerLemmas.{report_replied, report_refused, is_there}
 use Rattle.treasury_api.proofs.ServeLemmas.{asked_report}
 use Rattle.treasury_api.proofs.LeftLemmas.{left_same, left_command, keeps_database, open_unheld, fails_not}
 use Rattle.treasury_api.proofs.LeftLemmas.{fails_unheld, fails_ruled, unread_state, refused_closed, ruled_texts}
 use Rattle.treasury_api.proofs.LeftLemmas.{ruled_report}
-use Rattle.treasury_api.proofs.answering.answer.Goals as goal
+use Rattle.treasury_api.proofs.answering.answer_ahead.Goals as goal
 
 pub answer_command-requires-clause-held : goal.answer_command-requires-clause-held
 answer_command-requires-clause-held g c = (
@@ -202,6 +202,12 @@ returns-in-Ok-DryRun-clause-replies g c clean f of =
     c.answer_dry_run.new.out.items still_of (ok_unfailed c.in-Ok.field-0 _ (c.in-Ok.ensures.answers was))
     (subst (λ (x : Federation). IsForeseen x c.in-Ok-DryRun.command c.answer_dry_run.result c.args.out.now.items
     c.answer_dry_run.new.out.items) same c.answer_dry_run.ensures.foreseen))
+
+pub returns-in-Ok-DryRun-clause-added : goal.returns-in-Ok-DryRun-clause-added
+returns-in-Ok-DryRun-clause-added g c =
+    added_ahead _ _ c.args.request.now c.in-Ok-DryRun.command _ c.in-Some.ensures
+    (SpelledAsks_of_same _ _ _ _ _ refl c.in-Ok-DryRun.field-0-is c.in-Ok-DryRun.ensures.asks)
+    c.answer_dry_run.ensures.added
 
 pub returns-in-Ok-DryRun-clause-err : goal.returns-in-Ok-DryRun-clause-err
 returns-in-Ok-DryRun-clause-err g c = foreseen_same _ _ _ _ _ c.answer_dry_run.ensures.foreseen
