@@ -1,9 +1,10 @@
 -- A word over a database file: its treasury is started, answers and is closed.
-use Rattle.std.proofs.Common.{◌≡◌, ◌≢◌, ◌<◌, ◌⊎◌, ℕ, Bool, true, false, List, [], length, Option, None, Err}
-use Rattle.std.proofs.Common.{codes, refl, sym, subst}
+use Rattle.std.proofs.Common.{◌≡◌, ◌≢◌, ◌<◌, ◌⊎◌, ℕ, Bool, true, false, List, [], length, Option, None, Some, Err}
+use Rattle.std.proofs.Common.{codes, refl, sym, ap, subst}
 use Rattle.std.proofs.Common.{inl, inr, arith}
 use Rattle.std.proofs.KnownBytes.{Appends-nil}
 use Rattle.std.specs.Fmt.{digits}
+use Rattle.std.specs.Option.{IsSome}
 use Rattle.std.specs.Io.KnownBytes.{Appends}
 use Rattle.clap.specs.Walk.{Row, first_of}
 use Rattle.sqlite_disk.specs.declared.Disk as disk
@@ -16,7 +17,7 @@ use Rattle.sqlite_store.specs.declared.store.FileStore.{FileStore}
 use Rattle.sqlite.specs.State.{HasCleanDisk}
 use Rattle.sqlite.specs.Files.{file_state, over_files}
 use Rattle.money_core.specs.declared.cause.Cause.{Cause}
-use Rattle.money_core.specs.declared.cause.Cause.TheVariants.{OutOfMemory, ReadFault}
+use Rattle.money_core.specs.declared.cause.Cause.TheVariants.{OutOfMemory, ReadFault, Request as NoRequest}
 use Rattle.book_core.specs.declared.refusal.Refusal.TheVariants.{Plain}
 use Rattle.treasury_state.specs.Federation.{Federation}
 use Rattle.treasury_state.specs.Rows.{rows}
@@ -36,9 +37,10 @@ use Rattle.treasury_files.specs.declared.left.Left.TheVariants.{Untouched, Close
 use Rattle.treasury.specs.Word.{AnswersWord, SaysTo}
 use Rattle.treasury_files.specs.Left.{HoldsOf, HaveRows, KeepsFile}
 use Rattle.treasury.specs.At.{SaysAt}
-use Rattle.treasury.specs.OverFile.{Spoken, IsRefusedBy, IsFileRefused, AnswersOver}
+use Rattle.treasury.specs.OverFile.{Spoken, IsRefusedBy, IsRefusedBefore, IsFileRefused, AnswersOver}
 use Rattle.treasury_files.specs.InFile.{ShowsState, LeavesState}
 use Rattle.treasury_spelling.specs.Spelling.{terms_in, given}
+use Rattle.treasury_requests.specs.declared.request.Request.{Request}
 use Rattle.treasury_requests.specs.declared.request.Request.TheVariants.{Import}
 use Rattle.treasury.specs.OverFile.{HaveRowsBehind, MayHaveDone, Tells, SaysOver, SaysToJournal, SaysToWord, IsTold}
 use Rattle.treasury.specs.OverFile.{has_no_memory, has_no_treasury, cannot_be_used}
@@ -49,6 +51,11 @@ use Rattle.treasury.specs.OverFileParts.{spoken, SaysToImport, SaysToForm}
 use Rattle.treasury_files.specs.Started.{cause_of_why, IsUnserved, IsStarted, IsClosedAs, IsStillOpen}
 use Rattle.treasury_files.proofs.LeftLemmas.{shows_rows, keeps_untouched}
 use Rattle.treasury_files.proofs.StartedLemmas.{left_behind, committed_in}
+
+-- a request that values spell
+pub spelled_some : (o : Option Request) → IsSome o → (request : Request) × (o ≡ Some request)
+spelled_some None is = absurd cc
+spelled_some (Some request) is = (request, refl)
 
 -- the line of 40
 pub line_of_40 : codes "refused 40 OutOfMemory\n" ≡ answer_text [] (Err (Plain OutOfMemory))
@@ -201,6 +208,16 @@ module _ {D : Type 0} (g : disk.Ghosts D) where
       subst (λ (b : Answered D g). SaysOver g image request (spoken b.said) b.left) (sym is)
       (has_no_memory (subst (λ (c : Cause). IsRefusedBy c (spoken said)) memory refused)
       (keeps_untouched g image Untouched refl))
+
+  -- values spell no request, and no file was opened
+  pub refused_before : (said : Said) (cause : Cause) (a : Answered D g)
+      → a ≡ record { said = said; left = Untouched } → cause ≡ NoRequest → IsRefusedBy cause (spoken said)
+      → IsRefusedBefore g NoRequest (spoken a.said) a.left
+  refused_before said cause a is none refused = (
+    subst (λ (b : Answered D g). IsRefusedBy NoRequest (spoken b.said)) (sym is)
+        (subst (λ (c : Cause). IsRefusedBy c (spoken said)) none refused),
+    ap (λ (b : Answered D g). b.left) is,
+  )
 
   -- a word names no file, and none was opened
   pub no_file_is_named : (image : Image) (word : List ℕ) (values : List Row) (said : Said) (a : Answered D g)

@@ -55,7 +55,6 @@ use treasury_laws::{
 use treasury_memory::{MemoryStore, open_memory};
 use treasury_spelling::{is_explained, read_words, terms_of, value_of};
 use treasury_store::{Store, Treasury};
-use treasury_told::ended::ended_part;
 
 /// How the program ends: its exit status, and what it leaves of the files of a word.
 #[derive(Drop)]
@@ -210,17 +209,17 @@ fn turn_on(rt: &HostRuntime, values: &ArgMatches<'_>) -> Option<Turn> {
 }
 
 /// Writes to standard error what is said beside an answer, what a look at the word's files adds to it, and of a dry run
-/// that it was one.
+/// that it was one, where that is not said yet.
 fn tell(rt: &HostRuntime, values: &ArgMatches<'_>, said: &Said) {
-    let reason = ended_part(said.reason.as_slice());
+    let reason = said.reason.as_slice();
     let looks = looks_of(rt, values, said.answer.as_slice(), reason);
     if let Ok(text) = str::from_utf8(reason) {
         let _ = rt.eprint(text);
     }
-    if let Ok(text) = str::from_utf8(ended_part(looks.as_slice())) {
+    if let Ok(text) = str::from_utf8(looks.as_slice()) {
         let _ = rt.eprint(text);
     }
-    if terms_of(values).is_dry_run {
+    if terms_of(values).is_dry_run && !reason.ends_with(NOTHING_ENTERED.as_bytes()) {
         let _ = rt.eprint(NOTHING_ENTERED);
     }
 }

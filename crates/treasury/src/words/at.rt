@@ -24,14 +24,13 @@ use std::alloc::Global;
 use std::fs;
 use std::io::{Read, Write};
 use std::net::TcpStream;
-use terminal_text::{push_line, push_shown};
-use treasury_api::{NOTHING_ENTERED, write_whole};
+use terminal_text::push_shown;
+use treasury_api::write_whole;
 use treasury_client::{Form, Heard, as_text, body_of, call_of, hear_command, hear_report};
 use treasury_files::read_journal;
-use treasury_messages::sentence;
-use treasury_requests::{Spelled, Terms, request_of};
-use treasury_spelling::{fault_of, form_of_word, port_of, says_no_count, terms_of, value_of};
-use treasury_told::ended::drop_cut_line;
+use treasury_messages::{hint, sentence, text_of};
+use treasury_requests::{Spelled, Terms};
+use treasury_spelling::{fault_of, port_of, request_of_word, says_no_count, terms_of, value_of};
 
 /// Services listen on this machine alone.
 const HOST: &str = "127.0.0.1";
@@ -205,19 +204,13 @@ fn reach(rt: &HostRuntime, port: u16) -> Result<TcpStream, Unheard> {
     }
 }
 
-/// What was heard, as it is said. That it was a dry run is said of each.
+/// What was heard, as it is said.
 fn said_of(heard: Heard) -> Said
     ensures { spoken result ≡ record { text = heard.answer.items; refused = heard.is_refused } }
 {
-    let mut reason = heard.said;
-    let last = NOTHING_ENTERED.as_bytes();
-    if reason.as_slice().ends_with(last) {
-        let length = reason.len().saturating_sub(last.len());
-        reason.truncate(length);
-    }
     Said {
         answer: heard.answer,
-        reason,
+        reason: heard.said,
         is_refused: heard.is_refused,
     }
 }
@@ -228,9 +221,9 @@ fn hear_command_at(
     port: u16,
     request: &Spelled,
     journal: Option<&[u8]>,
-) -> Result<Heard, Unheard>
+) -> Result<Said, Unheard>
     requires { HasDayNumbers request.now.request }
-    ensures { IfOk result (λ heard. (came : List ℕ) × SaysToCommand came heard.answer.items heard.is_refused) }
+    ensures { IfOk result (λ said. (came : List ℕ) × SaysToCommand came said.answer.items said.is_refused) }
 {
     let stream = match reach(rt, port) {
         Ok(stream) => stream,
@@ -239,15 +232,15 @@ fn hear_command_at(
     let mut writer = Replying::new(rt, &stream);
     let reader = Asking::waiting(rt, &stream);
     match hear_command_from(rt.alloc(), port, request, journal, reader, &mut writer) {
-        Ok(heard) => Ok(heard),
+        Ok(heard) => Ok(said_of(heard)),
         Err(why) => Err(why),
     }
 }
 
 /// Hears what the service at the port says to a report.
-fn hear_report_at(rt: &HostRuntime, port: u16, request: &Spelled) -> Result<Heard, Unheard>
+fn hear_report_at(rt: &HostRuntime, port: u16, request: &Spelled) -> Result<Said, Unheard>
     requires { HasDayNumbers request.now.request }
-    ensures { IfOk result (λ heard. (came : List ℕ) × SaysToReport came heard.answer.items heard.is_refused) }
+    ensures { IfOk result (λ said. (came : List ℕ) × SaysToReport came said.answer.items said.is_refused) }
 {
     let stream = match reach(rt, port) {
         Ok(stream) => stream,
@@ -256,7 +249,7 @@ fn hear_report_at(rt: &HostRuntime, port: u16, request: &Spelled) -> Result<Hear
     let mut writer = Replying::new(rt, &stream);
     let reader = Asking::waiting(rt, &stream);
     match hear_report_from(rt.alloc(), port, request, reader, &mut writer) {
-        Ok(heard) => Ok(heard),
+        Ok(heard) => Ok(said_of(heard)),
         Err(why) => Err(why),
     }
 }
@@ -266,7 +259,7 @@ fn why_refused(rt: &HostRuntime, port: u16, request: &Spelled, answer: &[u8]) ->
     requires { HasDayNumbers request.now.request }
 {
     match hear_command_at(rt, port, request, None) {
-        Ok(heard) if heard.answer.as_slice() == answer => Some(said_of(heard).reason),
+        Ok(said) if said.answer.as_slice() == answer => Some(said.reason),
         _ => None,
     }
 }
@@ -300,23 +293,7 @@ fn ask_report(rt: &HostRuntime, port: u16, request: &Spelled) -> Result<Said, Un
     ensures { IfOk result (λ said. (came : List ℕ) × SaysToReport came said.answer.items said.is_refused) }
 {
     match hear_report_at(rt, port, request) {
-        Ok(heard) => Ok(with_reason(rt, port, request, said_of(heard))),
-        Err(why) => Err(why),
-    }
-}
-
-/// What is said to the request of a command.
-fn ask_command(
-    rt: &HostRuntime,
-    port: u16,
-    request: &Spelled,
-    journal: Option<&[u8]>,
-) -> Result<Said, Unheard>
-    requires { HasDayNumbers request.now.request }
-    ensures { IfOk result (λ said. (came : List ℕ) × SaysToCommand came said.answer.items said.is_refused) }
-{
-    match hear_command_at(rt, port, request, journal) {
-        Ok(heard) => Ok(said_of(heard)),
+        Ok(said) => Ok(with_reason(rt, port, request, said)),
         Err(why) => Err(why),
     }
 }
@@ -332,6 +309,13 @@ fn why_safe(request: &Spelled) -> &'static [u8] {
     }
 }
 
+/// The line of a hint, if there is memory for it.
+fn hint_text(alloc: Global, words: &'static [u8]) -> Vec<u8> {
+    let mut said = Vec::new(alloc);
+    let _ = hint(words, &mut said);
+    text_of(alloc, said.as_slice())
+}
+
 /// Said where there is no reply to a request.
 fn unanswered(alloc: Global, room: Vec<u8>, port: u16, request: &Spelled, why: Unheard) -> Said
     requires { IsRoom room }
@@ -343,8 +327,8 @@ fn unanswered(alloc: Global, room: Vec<u8>, port: u16, request: &Spelled, why: U
         Err(_) => refused(alloc, room, cause, HOST, why.reason()),
     };
     let mut reason = said.reason;
-    drop_cut_line(&mut reason);
-    let _ = push_line(why_safe(request), &mut reason);
+    let mut safe = hint_text(alloc, why_safe(request));
+    let _ = reason.append(&mut safe);
     Said {
         answer: said.answer,
         reason,
@@ -370,7 +354,7 @@ fn answer_request_at(
             Err(why) => unanswered(rt.alloc(), room, port, request, why),
         }
     } else {
-        match ask_command(rt, port, request, journal) {
+        match hear_command_at(rt, port, request, journal) {
             Ok(said) => said,
             Err(why) => unanswered(rt.alloc(), room, port, request, why),
         }
@@ -451,10 +435,7 @@ fn answer_form_at(
     ensures { SaysToFormAt word.now (rows_of (found_of values.now)) (spoken result) }
 {
     let alloc = rt.alloc();
-    let Some(form) = form_of_word(word, values) else {
-        return refused(alloc, room, Cause::Request, word, fault_of(word, values));
-    };
-    match request_of(alloc, form) {
+    match request_of_word(alloc, word, values) {
         Ok(request) => {
             let spelled = Spelled {
                 request,
@@ -462,7 +443,13 @@ fn answer_form_at(
             };
             answer_request_at(rt, room, port, &spelled, None)
         }
-        Err(cause) => refused(alloc, room, cause, word, sentence(cause)),
+        Err(cause) => {
+            let reason = match cause {
+                Cause::Request => fault_of(word, values),
+                _ => sentence(cause),
+            };
+            refused(alloc, room, cause, word, reason)
+        }
     }
 }
 

@@ -6,12 +6,10 @@ ghost use Rattle.treasury_messages.specs.Unasked.{IsToldUnasked};
 use book_core::{DayLedger, Refusal};
 use money_core::Cause;
 use std::alloc::Global;
-use treasury_api::{Listener, said_beside};
+use treasury_api::{Grounds, JOURNAL, Listener, said_beside};
 use treasury_core::State;
 use treasury_messages::{sentence_text, unasked_text};
 use treasury_requests::Spelled;
-use treasury_told::ended::ended_part;
-use treasury_told::notes::{HeldBefore, held_before};
 
 /// Explains the answers of a run on standard error: each as a command over a file does, below the number of its line.
 #[derive(Drop)]
@@ -19,8 +17,6 @@ pub struct Explainer<'a> {
     rt: &'a HostRuntime,
     /// The number of the line, from 1.
     line: usize,
-    /// What was held before the request of the line was answered.
-    held: Option<HeldBefore>,
     /// What is to be said once the answer to the line is written.
     said: Vec<u8>,
 }
@@ -31,7 +27,6 @@ impl<'a> Explainer<'a> {
         Explainer {
             rt,
             line: 0,
-            held: None,
             said: Vec::new(rt.alloc()),
         }
     }
@@ -42,18 +37,15 @@ impl Listener for Explainer<'_> {
         self.line = self.line.saturating_add(1);
     }
 
-    fn ask(&mut self, state: Option<&State<DayLedger>>, request: &Spelled) {
-        self.held = held_before(state, &request.request);
-    }
-
     fn tell(
         &mut self,
         alloc: Global,
         state: Option<&State<DayLedger>>,
         request: &Spelled,
+        grounds: &Grounds,
         refusal: Option<&Refusal>,
     ) {
-        self.said = said_beside(alloc, state, request, self.held, refusal);
+        self.said = said_beside(alloc, state, request, JOURNAL, grounds, refusal);
     }
 
     fn tell_unasked(&mut self, alloc: Global, line: &[u8], cause: Cause)
@@ -67,7 +59,7 @@ impl Listener for Explainer<'_> {
     }
 
     fn end_line(&mut self) {
-        if let Ok(text) = str::from_utf8(ended_part(self.said.as_slice())) {
+        if let Ok(text) = str::from_utf8(self.said.as_slice()) {
             if !text.is_empty() {
                 let line = self.line;
                 let _ = eprintln!(self.rt; "line {line}:");

@@ -3,8 +3,8 @@
 use clap::ArgMatches;
 use money_core::Cause;
 use treasury_files::{has_log, log_name, why_unread, why_unused};
+use treasury_messages::{Message, MessageKind, Piece, hint, say, text_of};
 use treasury_spelling::value_of;
-use treasury_told::explain::{push_line, push_named};
 
 /// Whether the sentence that was said speaks of an opening that failed, and not of a file in use.
 fn is_of_opening(reason: &[u8]) -> bool {
@@ -44,23 +44,27 @@ fn is_of_log(answer: &[u8], reason: &[u8]) -> bool {
     answer.starts_with(b"refused 43") || reason.windows(beside.len()).any(|part| part == beside)
 }
 
-/// Appends which file is the log, and what to do where it is another file's.
-fn push_log(log: &[u8], out: &mut Vec<u8>) -> Result<(), Cause> {
-    push_named(b"its log", log, out)?;
-    push_line(
+/// Says which file is the log, and what to do where it is another file's.
+fn say_log(log: &[u8], out: &mut Vec<Message>) -> Result<(), Cause> {
+    say(
+        MessageKind::Hint,
+        &[Piece::Words(b"its log: "), Piece::Text(log)],
+        out,
+    )?;
+    hint(
         b"if the file is a copy that was put back, remove the log first",
         out,
     )
 }
 
-/// Appends what is said of the log of a refused word's file, where one stands beside it.
-fn push_looked(rt: &HostRuntime, values: &ArgMatches<'_>, out: &mut Vec<u8>) {
+/// Says what there is to say of the log of a refused word's file, where one stands beside it.
+fn say_looked(rt: &HostRuntime, values: &ArgMatches<'_>, out: &mut Vec<Message>) {
     let Some(path) = value_of(values, "db") else {
         return;
     };
     if has_log(rt, path) {
         if let Ok(log) = log_name(rt, path) {
-            let _ = push_log(log.as_bytes(), out);
+            let _ = say_log(log.as_bytes(), out);
         }
     }
 }
@@ -72,12 +76,12 @@ pub fn looks_of(
     answer: &[u8],
     reason: &[u8],
 ) -> Vec<u8> {
-    let mut lines = Vec::new(rt.alloc());
+    let mut said = Vec::new(rt.alloc());
     if let Some(found) = found_of(rt, values, answer, reason) {
-        let _ = push_line(found, &mut lines);
+        let _ = hint(found, &mut said);
     }
     if is_of_log(answer, reason) {
-        push_looked(rt, values, &mut lines);
+        say_looked(rt, values, &mut said);
     }
-    lines
+    text_of(rt.alloc(), said.as_slice())
 }

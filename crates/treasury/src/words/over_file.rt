@@ -25,15 +25,14 @@ use sqlite_disk::Disk;
 use std::alloc::Global;
 use std::fs;
 use std::io::Read;
-use treasury_api::{Form, answer, notes_on, reason_of, refuse, room_for_line};
+use treasury_api::{Form, Grounds, answer_ahead, refuse, room_for_line, said_beside};
 use treasury_files::{
     Left, UNCLOSED, Unopened, Unserved, close_treasury, make_tables, open_treasury, read_journal,
 };
 use treasury_messages::sentence;
-use treasury_requests::{Bytes, Request, Spelled, Terms, request_of};
-use treasury_spelling::{fault_of, form_of_word, says_no_count, terms_of, value_of};
+use treasury_requests::{Bytes, Request, Spelled, Terms};
+use treasury_spelling::{fault_of, request_of_word, says_no_count, terms_of, value_of};
 use treasury_store::Treasury;
-use treasury_told::notes::held_before;
 
 /// What is said to a word over a file, and what it leaves of the file.
 #[derive(Drop)]
@@ -123,15 +122,17 @@ pub fn answer_word<S: Alter>(
     ensures left { LeavesRequest S.Store treasury.old treasury.new request.now }
 {
     let mut text = Vec::new(alloc);
-    let held = held_before(treasury.state(), &request.request);
-    match answer(alloc, Form::Text, request, treasury, &mut text) {
+    let mut grounds = Grounds::before(treasury, &request.request);
+    let added = &mut grounds.added;
+    match answer_ahead(alloc, Form::Text, request, treasury, &mut text, added) {
         Ok(()) => Said {
             answer: text,
-            reason: notes_on(alloc, treasury.state(), request, source, held),
+            reason: said_beside(alloc, treasury.state(), request, source, &grounds, None),
             is_refused: false,
         },
         Err(refusal) => {
-            let reason = reason_of(alloc, treasury.state(), request, source, &refusal);
+            let state = treasury.state();
+            let reason = said_beside(alloc, state, request, source, &grounds, Some(&refusal));
             Said {
                 answer: refuse(alloc, treasury, refusal, room),
                 reason,
@@ -322,10 +323,7 @@ fn answer_form<S: Start>(
         (spoken result.said) result.left }
 {
     let alloc = rt.alloc();
-    let Some(form) = form_of_word(word, values) else {
-        return before(refused(alloc, room, Cause::Request, word, fault_of(word, values)));
-    };
-    match request_of(alloc, form) {
+    match request_of_word(alloc, word, values) {
         Ok(request) => {
             let spelled = Spelled {
                 request,
@@ -333,7 +331,16 @@ fn answer_form<S: Start>(
             };
             answer_request(rt, room, path, &spelled, "", start)
         }
-        Err(cause) => before(refused(alloc, room, cause, word, sentence(cause))),
+        Err(cause) => {
+            let reason = match cause {
+                Cause::Request => fault_of(word, values),
+                _ => sentence(cause),
+            };
+            Answered {
+                said: refused(alloc, room, cause, word, reason),
+                left: Left::Untouched,
+            }
+        }
     }
 }
 

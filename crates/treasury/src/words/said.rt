@@ -9,9 +9,9 @@ ghost use Rattle.treasury.specs.OverFileParts.{spoken, IsRoom};
 use book_core::Refusal;
 use money_core::{Cause, Styles};
 use std::alloc::Global;
+use terminal_text::push_shown;
 use treasury_api::answer_line;
 use treasury_core::Answer;
-use treasury_told::explain::push_reason;
 
 /// What is said to a word.
 #[derive(Drop)]
@@ -21,6 +21,17 @@ pub struct Said {
     /// For standard error: why it is refused, as far as there was memory for it.
     pub reason: Vec<u8>,
     pub is_refused: bool,
+}
+
+/// The line of a reason, after what it comes from.
+fn reason_line(alloc: Global, origin: &str, reason: &str) -> Result<Vec<u8>, Cause> {
+    let mut line = Vec::new(alloc);
+    line.extend_from_slice(b"treasury: ")?;
+    push_shown(origin.as_bytes(), &mut line)?;
+    line.extend_from_slice(b": ")?;
+    line.extend_from_slice(reason.as_bytes())?;
+    line.extend_from_slice(b"\n")?;
+    Ok(line)
 }
 
 /// Said where the word is refused by a cause alone, with the reason of what it comes from.
@@ -34,11 +45,13 @@ pub fn refused(alloc: Global, room: Vec<u8>, cause: Cause, origin: &str, reason:
         Ok(()) => {}
         Err(_) => unreachable!(),
     }
-    let mut told = Vec::new(alloc);
-    let _ = push_reason(origin, reason, &mut told);
+    let reason = match reason_line(alloc, origin, reason) {
+        Ok(line) => line,
+        Err(_) => Vec::new(alloc),
+    };
     Said {
         answer,
-        reason: told,
+        reason,
         is_refused: true,
     }
 }

@@ -60,7 +60,7 @@ fn push_all_own(said: &[u8], journal: &[u8], out: &mut Vec<u8>) -> Result<(), Ca
     Ok(())
 }
 
-/// What was said of an import, with the journal's own lines where they are not UTF-8, as far as there is memory.
+/// What was said of an import, with the journal's own lines where they are not UTF-8, if there is memory for them.
 pub fn with_own_lines(alloc: Global, said: Said, journal: &[u8]) -> Said
     ensures { spoken result ≡ spoken said }
 {
@@ -68,7 +68,9 @@ pub fn with_own_lines(alloc: Global, said: Said, journal: &[u8]) -> Said
         return said;
     }
     let mut reason = Vec::new(alloc);
-    let _ = push_all_own(said.reason.as_slice(), journal, &mut reason);
+    if push_all_own(said.reason.as_slice(), journal, &mut reason).is_err() {
+        return said;
+    }
     Said {
         answer: said.answer,
         reason,

@@ -1,9 +1,10 @@
 use Rattle.std.proofs.Common.{ℕ, List, sym, subst}
 use Rattle.treasury_client.specs.Reply.{SaysToCommand}
 use Rattle.treasury.specs.Spoken.{Spoken}
-use Rattle.treasury.proofs.words.at.ask_command.Goals as goal
+use Rattle.treasury.proofs.words.at.hear_command_at.Goals as goal
 
-pub returns-in-Ok : goal.returns-in-Ok
-returns-in-Ok c =
+pub returns-in-Ok-hear_command_from : goal.returns-in-Ok-hear_command_from
+returns-in-Ok-hear_command_from c =
+    let heard = c.in-Ok-hear_command_from.ensures.heard in
     subst (λ (said : Spoken). (came : List ℕ) × SaysToCommand came said.text said.refused) (sym c.said_of.ensures)
-    c.in-Ok.ensures
+    (heard.0, heard.2)

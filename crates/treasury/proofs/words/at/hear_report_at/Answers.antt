@@ -1,0 +1,10 @@
+use Rattle.std.proofs.Common.{ℕ, List, sym, subst}
+use Rattle.treasury_client.specs.Reply.{SaysToReport}
+use Rattle.treasury.specs.Spoken.{Spoken}
+use Rattle.treasury.proofs.words.at.hear_report_at.Goals as goal
+
+pub returns-in-Ok-hear_report_from : goal.returns-in-Ok-hear_report_from
+returns-in-Ok-hear_report_from c =
+    let heard = c.in-Ok-hear_report_from.ensures.heard in
+    subst (λ (said : Spoken). (came : List ℕ) × SaysToReport came said.text said.refused) (sym c.said_of.ensures)
+    (heard.0, heard.2)
