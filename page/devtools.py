@@ -87,6 +87,8 @@ class Browser:
         self.tabs[session] = tab = Tab(self, session, target)
         for part in ("Page", "Runtime", "Network", "Log"):
             tab.call(part + ".enable")
+        # (keys reach a tab whatever window the system has in front)
+        tab.call("Emulation.setFocusEmulationEnabled", enabled=True)
         return tab
 
     def longest_task(self, act):

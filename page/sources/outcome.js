@@ -6,9 +6,10 @@ function tell(what) {
   what.focus({ preventScroll: true });
 }
 const hush = () => $("outcome").replaceChildren();
-// The notes beside an answer: new entries, the entry of a closing, and what may have been meant otherwise.
+// The notes beside an answer: new entries, one that would be made, and what may have been meant otherwise.
 function remarks(notes, isShown) {
-  const made = notes.filter(line => line.startsWith("  ")).map(line => line.slice(2));
+  // What a transfer does to its account is shown by its form.
+  const made = notes.filter(line => /^ {2}(?:[0-9]{4}-| {4})/.test(line)).map(line => line.slice(2));
   const fresh = notes.map(line => /^new: journal:([0-9]+): (.*)$/su.exec(line)).filter(Boolean);
   const rest = notes.filter(line => line.startsWith("new: and ")).map(line => line.slice("new: ".length));
   const noted = notes.filter(line => line.startsWith("note: ")).map(line => line.slice("note: ".length));

@@ -6,7 +6,7 @@ import re
 
 import devtools
 
-from .page import Page, balance_of, count_of, last_entry
+from .page import PAUSE, Page, balance_of, count_of, last_entry
 
 MOST_STEPS = 4
 # How wide the window is, in points, and in which language
@@ -59,20 +59,30 @@ class Volunteer:
         self.page.settle()
 
     def reach(self, selector):
-        """Presses Tab until an element has the focus."""
-        for _ in range(100):
-            # (so many at once as there are elements between, at least)
-            left = self.page.run(f"""const has = document.activeElement, wanted = {json.dumps(selector)};
-                if (has.matches(wanted)) return 0;
-                const all = [...document.querySelectorAll('a[href], button, input, select, textarea, summary')]
-                    .filter(it => it.checkVisibility() && !it.disabled && it.type !== 'radio'
-                        && (has === document.body || has.compareDocumentPosition(it) & 4));
-                return Math.max(1, all.findIndex(it => it.matches(wanted)))""")
-            if not left:
-                return
-            for _ in range(left):
-                self.tab.press("Tab")
-        raise AssertionError(f"{self.name}: {selector} is not reached by keyboard")
+        """Presses Tab until an element has the focus. What leaving a field brings is waited for."""
+        try:
+            self.tab.until(lambda: self.comes_to(selector), f"{selector} is reached by keyboard")
+        except devtools.Fault as fault:
+            has = self.page.run("return [document.activeElement.outerHTML.slice(0, 200), document.hasFocus(),"
+                                " location.href]")
+            raise AssertionError(f"{self.name}: {fault}; the focus is on {has}") from fault
+
+    def comes_to(self, selector):
+        """Presses Tab as often as there are elements between, at least; whether the element had the focus before."""
+        left, is_there = self.page.run(f"""const has = document.activeElement, wanted = {json.dumps(selector)};
+            const it = document.querySelector(wanted);
+            if (!has || has.matches(wanted)) return [0, Boolean(has)];
+            // (where the next Tab leads from the body depends on what had the focus before)
+            const after = has === document.body ? []
+                : [...document.querySelectorAll('a[href], button, input, select, textarea, summary')].filter(it =>
+                    it.checkVisibility() && !it.disabled && it.type !== 'radio' && has.compareDocumentPosition(it) & 4);
+            return [Math.max(1, after.findIndex(it => it.matches(wanted))), Boolean(it)]""")
+        for _ in range(left):
+            self.tab.press("Tab")
+        if not is_there:
+            self.page.run(PAUSE)
+            self.page.settle()
+        return is_there and not left
 
     def go(self, view):
         """Goes to a view, by the menu."""
