@@ -1,46 +1,42 @@
+# Generated from the program's help by `.ci/help`; do not edit.
 # Completes the commands, options and files of treasury in bash: put `. completion.bash` into ~/.bashrc.
-
-# The options of a command
-_treasury_options() {
-    case $1 in
-    init) echo --db --help ;;
-    branch) echo --db --at --dry-run --help ;;
-    branches) echo --db --at --help ;;
-    commodity) echo --db --at --dry-run --help ;;
-    commodities) echo --db --at --help ;;
-    import) echo --db --at --branch --dry-run --if-entries --help ;;
-    accounts) echo --db --at --branch --help ;;
-    balance) echo --db --at --branch --day --help ;;
-    register) echo --db --at --branch --account --tag --help ;;
-    dispatch) echo --db --at --id --from --to --day --amount --account --dry-run --if-entries --help ;;
-    receive) echo --db --at --id --branch --day --account --part --amount --dry-run --if-entries --help ;;
-    transfers) echo --db --at --day --help ;;
-    transit) echo --db --at --day --help ;;
-    lock) echo --db --at --branch --day --dry-run --if-entries --help ;;
-    close) echo --db --at --branch --day --accounts --into --dry-run --if-entries --help ;;
-    journal) echo --db --at --branch --help ;;
-    serve) echo --db --port --requests --help ;;
-    run) echo --explain --help ;;
-    esac
-}
-
 _treasury() {
-    local at=${COMP_WORDS[COMP_CWORD]} before=${COMP_WORDS[COMP_CWORD - 1]}
-    local commands="init branch branches commodity commodities import accounts balance register dispatch receive transfers"
-    commands+=" transit lock close journal serve run help"
-    COMPREPLY=()
+    local it takes= words=
+    local commands="init branch branches commodity commodities import accounts balance register dispatch receive
+        transfers transit lock close journal serve run help"
+    case ${COMP_WORDS[1]} in
+    init) takes="db=FILE help" ;;
+    branch) takes="db=FILE at= dry-run help" ;;
+    branches) takes="db=FILE at= help" ;;
+    commodity) takes="db=FILE at= dry-run help" ;;
+    commodities) takes="db=FILE at= help" ;;
+    import) takes="db=FILE at= branch= dry-run if-entries= help =FILE" ;;
+    accounts) takes="db=FILE at= branch= help" ;;
+    balance) takes="db=FILE at= branch= day= help" ;;
+    register) takes="db=FILE at= branch= account= tag= help" ;;
+    dispatch) takes="db=FILE at= id= from= to= day= amount= account= dry-run if-entries= help" ;;
+    receive) takes="db=FILE at= id= branch= day= account= part= amount= dry-run if-entries= help" ;;
+    transfers) takes="db=FILE at= day= help" ;;
+    transit) takes="db=FILE at= day= help" ;;
+    lock) takes="db=FILE at= branch= day= dry-run if-entries= help" ;;
+    close) takes="db=FILE at= branch= day= accounts= into= dry-run if-entries= help" ;;
+    journal) takes="db=FILE at= branch= help" ;;
+    serve) takes="db=FILE port= requests= help" ;;
+    run) takes="explain help" ;;
+    help) takes="" ;;
+    esac
     if [ "$COMP_CWORD" = 1 ]; then
-        mapfile -t COMPREPLY < <(compgen -W "$commands --help --version" -- "$at")
+        words="$commands --help --version"
     elif [ "${COMP_WORDS[1]}" = help ]; then
-        mapfile -t COMPREPLY < <(compgen -W "$commands" -- "$at")
-    elif [ "${at#-}" != "$at" ]; then
-        mapfile -t COMPREPLY < <(compgen -W "$(_treasury_options "${COMP_WORDS[1]}")" -- "$at")
-    else
-        case $before in
-        --branch | --id | --from | --to | --day | --amount | --account | --tag | --accounts | --into) ;;
-        --part | --at | --port | --requests | --if-entries) ;;
-        *) mapfile -t COMPREPLY < <(compgen -f -- "$at") ;;
-        esac
+        words=$commands
+    elif [[ $2 == -* ]]; then
+        for it in ${takes% =FILE}; do words+=" --${it%%=*}"; done
+    fi
+    COMPREPLY=()
+    if [ "$words" ]; then
+        mapfile -t COMPREPLY < <(compgen -W "$words" -- "$2")
+    elif [[ " $takes " != *" ${3#--}= "* ]]; then
+        mapfile -t COMPREPLY < <(compgen -f -- "$2")
     fi
 }
 complete -F _treasury treasury

@@ -12,6 +12,7 @@
 //   bytes   a write to standard output that comes to this byte takes those before it, and from then on all of them fail
 //   disk    a call that changes a file (pwrite, ftruncate) or syncs it (fsync, fdatasync) fails
 //   stop    before such a call the process is killed
+//   halt    before such a call the process stops, until it is continued
 //   lose    the same, and each file loses what was changed since its last sync; also when the program has ended
 //
 // If PAGE names a file of four numbers of 64 bits (calls so far, NUMBER, TIMES, failures), these are read and written
@@ -218,6 +219,7 @@ static int is_disk_refused(void) {
     int loses = is_refused("lose");
     if (loses) lose();
     if (loses || is_refused("stop")) kill(getpid(), SIGKILL);
+    if (is_refused("halt")) kill(getpid(), SIGSTOP);
     return is_refused("disk");
 }
 
