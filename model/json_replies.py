@@ -7,7 +7,7 @@ import re
 from model.refusals import NAMES
 
 TOP = os.path.dirname(os.path.dirname(os.path.realpath(__file__)))
-ROW = r'(?m)^\| ([0-9]+) \| [A-Z][A-Za-z0-9]+ \| (.*?)(?: \("[A-Z][a-z]+"\))? \| [^|]+ \|$'
+ROW = r'(?m)^\| ([0-9]+) \| [A-Z][A-Za-z0-9]+ \| (.*?)(?: \("[A-Z][a-z]+"\))? \|$'
 with open(os.path.join(TOP, "docs", "RULES.md"), encoding="utf-8") as page:
     SENTENCES = dict(re.findall(ROW, page.read()))  # that of each refusal, without a heading in brackets behind it
 NO_WEIGHT = re.compile(rb"[qQ]=0(?:\.0{0,3})?")

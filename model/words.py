@@ -5,6 +5,8 @@ from model.requests import KEYS, is_count, read_day
 
 # What stands in a command line without an option's name, by command
 POSITIONAL = {"branch": "name", "commodity": "sample", "import": "journal"}
+# What a command takes for an option that is left out
+LEFT_OUT = {"balance": {"day": "9999-12-31"}}
 
 
 def read_words(words):
@@ -36,6 +38,7 @@ def read_words(words):
                 return None
         keys[key] = value
     places = [keys.pop(it) for it in ("db", "at") if it in keys]
+    keys = {**LEFT_OUT.get(do, {}), **keys}
     return {**keys, "do": do} if len(places) == 1 and set(needed) <= set(keys) else None
 
 
