@@ -40,6 +40,11 @@ def read(file):
         return it.read()
 
 
+def read_if_there(file):
+    """The text of a file; an empty one if there is no file."""
+    return read(file) if os.path.exists(file) else ""
+
+
 @functools.cache
 def words(text):
     """The text with one blank for each white space in it, and none at a bracket's inner side; strings stay."""
@@ -311,6 +316,21 @@ def modules_listed(folder):
             heading = line
         elif line.startswith("pub mod "):
             yield line.split()[2], "mirrors code" in heading
+
+
+def comment_above(lines, number, sign):
+    """The first paragraph of the comment above a line, whose lines begin with the sign, up to a heading; attributes are
+    passed over."""
+    above = []
+    for line in reversed(lines[: number - 1]):
+        line = line.strip()
+        if line.startswith("-- ----"):
+            break
+        if line.startswith(sign):
+            above.insert(0, line[len(sign) :].strip())
+        elif not line.startswith("#["):
+            break
+    return " ".join(above[: above.index("")] if "" in above else above)
 
 
 def folders():
