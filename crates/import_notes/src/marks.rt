@@ -21,7 +21,7 @@ use treasury_messages::Piece::{Origin, Words};
 use treasury_messages::{Done, MessageKind, Messages, Piece, say};
 use treasury_reasons::reading::Read;
 
-/// A comment of a new transaction that was to be its mark, and is none.
+/// A comment of a new transaction that contains `bookid:` and is not its mark.
 #[derive(Clone, Copy)]
 pub(crate) struct Unmarked<'a> {
     /// The line of the transaction's header.

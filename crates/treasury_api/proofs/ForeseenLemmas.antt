@@ -1,7 +1,6 @@
 -- What is replied to a dry run.
 use Rattle.std.proofs.Common.{◌≡◌, ◌++◌, ◌⊎◌, ℕ, List, [], Bool, true, false, Option, None, Some}
-use Rattle.std.specs.Prelude.{IfSome}
-use Rattle.std.proofs.Common.{Result, Ok, Err, IfErr, OnErr, refl, ap, ◌∙◌, sym, subst, inl, inr}
+use Rattle.std.proofs.Common.{Result, Ok, Err, IfErr, OnOk, OnErr, refl, ap, ◌∙◌, sym, subst, inl, inr}
 use Rattle.sqlite.specs.Store.{Ghosts}
 use Rattle.money_core.specs.declared.style.Style.{Style}
 use Rattle.money_core.specs.declared.cause.Cause.{Cause}
@@ -141,12 +140,11 @@ pub what_is_added : (f : Federation) (c : AnyCommand) (answer : Answer) (added :
 what_is_added f c answer added (replied, is) = is ∙ ap (λ (r : Result Answer Refusal). delta f c r) (sym replied)
 
 -- what is added in the state that memory holds
-pub added_ahead : (held : Option Federation) (f : Federation) (request : Spelled) (c : AnyCommand)
-    (added : Option (List Addition)) → held ≡ Some f → SpelledAsks f request (Ok (DryRun c))
-    → IfSome added (λ (list : List Addition). list ≡ delta f c (command_reply f c))
-    → IfSome added (IsAddedAhead held request)
-added_ahead held f request c None is asks same = tt
-added_ahead held f request c (Some list) is asks same = (f, is, c, asks, same)
+pub added_ahead : {T : Type 0} (held : Option Federation) (f : Federation) (request : Spelled) (c : AnyCommand)
+    (added : Option (List Addition)) (result : Result T Refusal) → held ≡ Some f → SpelledAsks f request (Ok (DryRun c))
+    → OnOk result (added ≡ Some (delta f c (command_reply f c))) → OnOk result (IsAddedAhead held request added)
+added_ahead held f request c added (Ok x) is asks same = (f, is, c, asks, same)
+added_ahead held f request c added (Err e) is asks same = tt
 
 -- what is decided, of a command that is refused
 pub refused_steps : (f : Federation) (c : AnyCommand) (e : Refusal) → Decides f c (Err e) → Steps f c (Err e)

@@ -1,7 +1,8 @@
 -- What is said beside an answer: messages, by their kinds and what they name, of which the lines are printed (own rule;
 -- docs/RULES.md, "Explanations" and "Notes"). Where memory runs out before all is said, the sentence of a refusal
 -- stands alone, and there are no notes; where it runs out while lines are printed, the first ones are.
-use Rattle.std.specs.Prelude.{◌≡◌, ◌⊎◌, ℕ, List, [], ◌∷◌, ◌++◌, codes, Option, Some, None, Ok, IsTrue}
+use Rattle.std.specs.Prelude.{◌≡◌, ◌⊎◌, ℕ, Bool, true, false, List, [], ◌∷◌, ◌++◌, codes}
+use Rattle.std.specs.Prelude.{Option, Some, None, Ok, IsTrue}
 use Rattle.money_core.specs.declared.cause.Cause.{Cause}
 use Rattle.book_core.specs.declared.refusal.Refusal.{Refusal}
 use Rattle.journal_format.specs.declared.txn.Located.{Located}
@@ -43,11 +44,6 @@ pub record AreNotesAfter (f : Federation) (request : Request) (source : List ℕ
       → IsReadImport f.styles request name journal list → said ≡ entered_notes f name source journal held list
   pub others : journal_asked request ≡ None → said ≡ request_notes f request before
 
--- the same, if it is known what was held before
-abbrev pub HasNotesAfter : Federation → Request → List ℕ → Option HeldBefore → List Said → Type 0
-HasNotesAfter f request source held said =
-    (before : HeldBefore) × (held ≡ Some before) × AreNotesAfter f request source before said
-
 -- what is said of a request that would add this
 pub record AreNotesOf (f : Federation) (request : Request) (source : List ℕ) (additions : List Addition)
     (said : List Said) : Type 0 where
@@ -57,27 +53,29 @@ pub record AreNotesOf (f : Federation) (request : Request) (source : List ℕ) (
   pub others : journal_asked request ≡ None → AreAllPrintable f.styles (records_added additions)
       → said ≡ dry_run_said f request additions
 
--- what a dry run would add: what its command would, in the state that memory holds
-abbrev pub IsAddedAhead : Option Federation → Spelled → List Addition → Type 0
+-- what an answered dry run would add: what its command would, in the state that memory holds
+abbrev pub IsAddedAhead : Option Federation → Spelled → Option (List Addition) → Type 0
 IsAddedAhead held request added =
     (f : Federation) × (held ≡ Some f) × (c : Command) × SpelledAsks f request (Ok (DryRun c))
-    × (added ≡ delta f c (reply f c))
+    × (added ≡ Some (delta f c (reply f c)))
 
--- what is noted: of a dry run by what it would add, of another answer by what was held before
-abbrev pub AreNotesBy : Federation → Request → List ℕ → Option (List Addition) → Option HeldBefore → List Said → Type 0
-AreNotesBy f request source (Some added) held said = AreNotesOf f request source added said
-AreNotesBy f request source None held said = HasNotesAfter f request source held said
+-- what is noted: of a dry run by what it would add, of another request by what was held before it
+abbrev pub AreNotesBy : Bool → Federation → Request → List ℕ → Grounds → List Said → Type 0
+AreNotesBy true f request source grounds said =
+    (added : List Addition) × (grounds.added ≡ Some added) × AreNotesOf f request source added said
+AreNotesBy false f request source grounds said =
+    (before : HeldBefore) × (grounds.held ≡ Some before) × AreNotesAfter f request source before said
 
 -- the notes beside an answer, or nothing
-abbrev pub IsNoted : Federation → Request → List ℕ → Grounds → List ℕ → Type 0
+abbrev pub IsNoted : Federation → Spelled → List ℕ → Grounds → List ℕ → Type 0
 IsNoted f request source grounds text =
-    (said : List Said) × (AreNotesBy f request source grounds.added grounds.held said ⊎ (said ≡ []))
+    (said : List Said) × (AreNotesBy request.terms.is_dry_run f request.request source grounds said ⊎ (said ≡ []))
     × IsFirstTextOf said text
 
 -- the reason of a refusal, or the notes; nothing is said where the state is not in memory
-abbrev pub IsReasonOrNotes : Option Federation → Request → List ℕ → Grounds → Option Refusal → List ℕ → Type 0
+abbrev pub IsReasonOrNotes : Option Federation → Spelled → List ℕ → Grounds → Option Refusal → List ℕ → Type 0
 IsReasonOrNotes None request source grounds refusal text = text ≡ []
-IsReasonOrNotes (Some f) request source grounds (Some refusal) text = IsReason f request source refusal text
+IsReasonOrNotes (Some f) request source grounds (Some refusal) text = IsReason f request.request source refusal text
 IsReasonOrNotes (Some f) request source grounds None text = IsNoted f request source grounds text
 
 -- with the last line of what is said of a dry run, if there is memory for it
@@ -88,7 +86,7 @@ IsEnded request said text =
 
 abbrev pub IsSaidBeside : Option Federation → Spelled → List ℕ → Grounds → Option Refusal → List ℕ → Type 0
 IsSaidBeside f request source grounds refusal text =
-    (said : List ℕ) × IsReasonOrNotes f request.request source grounds refusal said × IsEnded request said text
+    (said : List ℕ) × IsReasonOrNotes f request source grounds refusal said × IsEnded request said text
 
 -- the object of an answer that is no refusal, in which that is noted, or nothing
 abbrev pub IsJsonNoted : List ℕ → List ℕ → Option ℕ → List ℕ → Type 0

@@ -1,6 +1,6 @@
 //! Answers to requests, on a treasury.
 
-ghost use Rattle.std.specs.Prelude.{◌≡◌, ◌≤◌, ◌+◌, length, false, None, Ok, Err, OnOk, OnErr, IfSome, IsTrue};
+ghost use Rattle.std.specs.Prelude.{◌≡◌, ◌≤◌, ◌+◌, length, false, None, Ok, Err, OnOk, OnErr, IsTrue};
 ghost use Rattle.sqlite.specs.Held.{state};
 ghost use Rattle.treasury_tables.specs.Kept.{StaysAsIs, IsFaithful};
 ghost use Rattle.treasury_store.specs.Shown.{ShowsNoState};
@@ -121,7 +121,8 @@ pub fn answer_ahead<S: Alter>(
         → StaysAsIs (state S.Store treasury.old.store.conn) (state S.Store treasury.new.store.conn)) }
     ensures database { KeepsDatabase S.Store treasury.old.store.conn treasury.new.store.conn result }
     ensures left { LeavesRequest S.Store treasury.old treasury.new request.now }
-    ensures added { IfSome added.new (IsAddedAhead treasury.new.held request.now) }
+    ensures added { IsTrue request.now.terms.is_dry_run → is_report request.now.request ≡ false
+        → OnOk result (IsAddedAhead treasury.new.held request.now added.new) }
 {
     reading_law();
     *added = None;

@@ -1,6 +1,6 @@
 //! Dry runs: what a command would be answered, and what it would add.
 
-ghost use Rattle.std.specs.Prelude.{◌≡◌, ◌≤◌, ◌+◌, length, IfSome, OnOk};
+ghost use Rattle.std.specs.Prelude.{◌≡◌, ◌≤◌, ◌+◌, length, Some, OnOk};
 ghost use Rattle.treasury_core.specs.Fits.{Fits};
 ghost use Rattle.treasury_core.specs.Step.{delta, reply};
 ghost use Rattle.treasury_api.specs.Serving.{IsForeseen};
@@ -23,7 +23,7 @@ pub fn answer_dry_run<L: Ledger>(
     requires { Fits state.now.styles command.now }
     ensures foreseen { IsForeseen state.now command.now result out.old.items out.new.items }
     ensures short { OnOk result (length out.new.items ≤ length out.old.items + MOST_PLAIN) }
-    ensures added { IfSome added.new (λ list. list ≡ delta state.now command.now (reply state.now command.now)) }
+    ensures added { OnOk result (added.new ≡ Some (delta state.now command.now (reply state.now command.now))) }
 {
     *added = None;
     match decide(alloc, state, command) {

@@ -67,23 +67,18 @@ fn reason_of<L: Ledger>(
 fn noted<L: Ledger>(
     alloc: Global,
     state: &State<L>,
-    request: &Request,
+    request: &Spelled,
     source: &str,
     grounds: &Grounds,
 ) -> Option<Vec<Message>>
     ensures { IfSome result (λ said.
-        AreNotesBy state.now request.now source.now grounds.now.added grounds.now.held said.items) }
+        AreNotesBy request.now.terms.is_dry_run state.now request.now.request source.now grounds.now said.items) }
 {
-    match &grounds.added {
-        Some(added) => match dry_run_notes(alloc, state, request, source, added.additions()) {
-            Ok(said) => Some(said),
-            Err(_) => None,
-        },
-        None => match notes_of(alloc, state, request, source, grounds.held?) {
-            Ok(said) => Some(said),
-            Err(_) => None,
-        },
+    if !request.terms.is_dry_run {
+        return notes_of(alloc, state, &request.request, source, grounds.held?).ok();
     }
+    let added = grounds.added.as_ref()?;
+    dry_run_notes(alloc, state, &request.request, source, added.additions()).ok()
 }
 
 /// What is said beside an answer that is no refusal: all its notes, if there is memory for them. The state is the one
@@ -91,7 +86,7 @@ fn noted<L: Ledger>(
 fn notes_on<L: Ledger>(
     alloc: Global,
     state: &State<L>,
-    request: &Request,
+    request: &Spelled,
     source: &str,
     grounds: &Grounds,
 ) -> Vec<u8>
@@ -116,7 +111,7 @@ fn push_dry_run(request: &Spelled, said: &mut Vec<u8>)
 fn reason_or_notes<L: Ledger>(
     alloc: Global,
     state: Option<&State<L>>,
-    request: &Request,
+    request: &Spelled,
     source: &str,
     grounds: &Grounds,
     refusal: Option<&Refusal>,
@@ -125,7 +120,9 @@ fn reason_or_notes<L: Ledger>(
         (option_map (λ r. r.now) refusal.entry) result.items }
 {
     match (state, refusal) {
-        (Some(state), Some(refusal)) => reason_of(alloc, state, request, source, refusal),
+        (Some(state), Some(refusal)) => {
+            reason_of(alloc, state, &request.request, source, refusal)
+        },
         (Some(state), None) => notes_on(alloc, state, request, source, grounds),
         (None, _) => Vec::new(alloc),
     }
@@ -144,7 +141,7 @@ pub fn said_beside<L: Ledger>(
     ensures { IsSaidBeside (option_map (λ s. s.now) state.entry) request.now source.now grounds.now
         (option_map (λ r. r.now) refusal.entry) result.items }
 {
-    let mut said = reason_or_notes(alloc, state, &request.request, source, grounds, refusal);
+    let mut said = reason_or_notes(alloc, state, request, source, grounds, refusal);
     push_dry_run(request, &mut said);
     said
 }

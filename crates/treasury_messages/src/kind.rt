@@ -150,7 +150,7 @@ pub enum MessageKind {
     NoAssertion,
     /// A sample that declares three decimals, and the mark before them.
     ThreeDecimals,
-    /// The place of a new transaction, and a comment of it that was to be its mark, and is none.
+    /// The place of a new transaction, and its comment that contains `bookid:` and is not a mark.
     NoMark,
     /// That a journal has no transaction.
     NothingImported,

@@ -18,6 +18,7 @@ use Rattle.treasury_api.proofs.ForeseenLemmas.{dry_run_replied, foreseen_listed,
 use Rattle.treasury_api.proofs.ForeseenLemmas.{foreseen_same, added_ahead}
 use Rattle.treasury_api.proofs.AnswerLemmas.{report_replied, report_refused, is_there}
 use Rattle.treasury_api.proofs.ServeLemmas.{asked_report}
+use Rattle.treasury_api.proofs.SpelledLemmas.{spelled_in_earnest}
 use Rattle.treasury_api.proofs.LeftLemmas.{left_same, left_command, keeps_database, open_unheld, fails_not}
 use Rattle.treasury_api.proofs.LeftLemmas.{fails_unheld, fails_ruled, unread_state, refused_closed, ruled_texts}
 use Rattle.treasury_api.proofs.LeftLemmas.{ruled_report}
@@ -182,6 +183,11 @@ returns-in-Ok-Command-clause-left g c =
     )
     means c.answer_command.ensures.left
 
+pub returns-in-Ok-Command-clause-added : goal.returns-in-Ok-Command-clause-added
+returns-in-Ok-Command-clause-added g c dry other =
+    absurd (let earnest = spelled_in_earnest _ c.args.request.now c.in-Ok-Command.command
+    (SpelledAsks_of_same _ _ _ _ _ refl c.in-Ok-Command.field-0-is c.in-Ok-Command.ensures.asks) in cc)
+
 -- ---- a dry run
 
 pub answer_dry_run-requires : goal.answer_dry_run-requires
@@ -204,8 +210,8 @@ returns-in-Ok-DryRun-clause-replies g c clean f of =
     c.answer_dry_run.new.out.items) same c.answer_dry_run.ensures.foreseen))
 
 pub returns-in-Ok-DryRun-clause-added : goal.returns-in-Ok-DryRun-clause-added
-returns-in-Ok-DryRun-clause-added g c =
-    added_ahead _ _ c.args.request.now c.in-Ok-DryRun.command _ c.in-Some.ensures
+returns-in-Ok-DryRun-clause-added g c dry other =
+    added_ahead _ _ c.args.request.now c.in-Ok-DryRun.command _ c.answer_dry_run.result c.in-Some.ensures
     (SpelledAsks_of_same _ _ _ _ _ refl c.in-Ok-DryRun.field-0-is c.in-Ok-DryRun.ensures.asks)
     c.answer_dry_run.ensures.added
 
@@ -244,6 +250,11 @@ returns-in-Ok-DryRun-clause-left g c =
 
 pub returns-in-Ok-push_report_in-clause-short : goal.returns-in-Ok-push_report_in-clause-short
 returns-in-Ok-push_report_in-clause-short g c other =
+    absurd (let clash = asked_report _ c.args.request.now _ c.in-Ok-Report.report c.in-Ok-Report.field-0-is
+    c.in-Ok-Report.ensures.asks in let k : true ≡ false = sym clash ∙ other in cc)
+
+pub returns-in-Ok-push_report_in-clause-added : goal.returns-in-Ok-push_report_in-clause-added
+returns-in-Ok-push_report_in-clause-added g c dry other =
     absurd (let clash = asked_report _ c.args.request.now _ c.in-Ok-Report.report c.in-Ok-Report.field-0-is
     c.in-Ok-Report.ensures.asks in let k : true ≡ false = sym clash ∙ other in cc)
 
