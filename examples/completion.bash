@@ -36,6 +36,7 @@ _treasury() {
     if [ "$words" ]; then
         mapfile -t COMPREPLY < <(compgen -W "$words" -- "$2")
     elif [[ " $takes " != *" ${3#--}= "* ]]; then
+        compopt -o filenames 2>/dev/null
         mapfile -t COMPREPLY < <(compgen -f -- "$2")
     fi
 }
