@@ -75,10 +75,16 @@ fn noted<L: Ledger>(
         AreNotesBy request.now.terms.is_dry_run state.now request.now.request source.now grounds.now said.items) }
 {
     if !request.terms.is_dry_run {
-        return notes_of(alloc, state, &request.request, source, grounds.held?).ok();
+        return match notes_of(alloc, state, &request.request, source, grounds.held?) {
+            Ok(said) => Some(said),
+            Err(_) => None,
+        };
     }
     let added = grounds.added.as_ref()?;
-    dry_run_notes(alloc, state, &request.request, source, added.additions()).ok()
+    match dry_run_notes(alloc, state, &request.request, source, added.additions()) {
+        Ok(said) => Some(said),
+        Err(_) => None,
+    }
 }
 
 /// What is said beside an answer that is no refusal: all its notes, if there is memory for them. The state is the one
