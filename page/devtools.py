@@ -5,6 +5,7 @@ import os
 import queue
 import shutil
 import subprocess
+import sys
 import threading
 import time
 
@@ -33,10 +34,12 @@ class Browser:
                    "--disable-background-networking", "--disable-background-timer-throttling",
                    "--disable-renderer-backgrounding", "--disable-component-update", "--lang=en-GB", *words,
                    "about:blank"]
-        # The browser reads from 3 and writes to 4.
-        shell = f'exec 3<&{to_browser} 4>&{from_browser}; exec "$@"'
-        self.child = subprocess.Popen(["sh", "-c", shell, "sh", *command], pass_fds=(to_browser, from_browser),
-                                      stdin=subprocess.DEVNULL, stdout=subprocess.DEVNULL, stderr=subprocess.DEVNULL)
+        # The browser reads from 3 and writes to 4. Either may be an end of a pipe by now, so both are copied first.
+        give = ("import fcntl, os, sys; ends = [fcntl.fcntl(int(it), fcntl.F_DUPFD, 5) for it in sys.argv[1:3]];"
+                "os.dup2(ends[0], 3); os.dup2(ends[1], 4); os.execv(sys.argv[3], sys.argv[3:])")
+        words = [sys.executable, "-c", give, str(to_browser), str(from_browser), *command]
+        self.child = subprocess.Popen(words, pass_fds=(to_browser, from_browser), stdin=subprocess.DEVNULL,
+                                      stdout=subprocess.DEVNULL, stderr=subprocess.DEVNULL)
         os.close(to_browser)
         os.close(from_browser)
         self.number, self.waiting, self.tabs, self.lock = 0, {}, {}, threading.Lock()
@@ -115,6 +118,7 @@ class Browser:
             self.child.wait(10)
         except (Fault, OSError, queue.Empty, subprocess.TimeoutExpired):
             self.child.kill()
+        os.close(self.write_end)
 
 
 class Tab:

@@ -184,7 +184,8 @@ def once_only(holds, page, browser):
         stand.mode = "pass"
         page.tab.reload()
         page.settle()
-        holds(f"{form}: in two tabs it waits for a reply", page.text("#pending") and second.text("#pending"))
+        holds(f"{form}: in two tabs it waits for a reply",
+              page.comes(lambda: page.text("#pending") and second.text("#pending")))
         stand.mode = "slow"
         for one in (page, second):
             one.run("document.querySelector('#pending button.main').click()")
