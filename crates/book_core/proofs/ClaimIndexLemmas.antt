@@ -96,12 +96,10 @@ found_add index es more e n d f h k =
     (λ x m. absurd (omega (arith, m.1))))))
 
 -- more may be found of the same entries and accounts
-pub kept_found : (es same : List Entry) (names as_before : List (List ℕ)) (old new : ClaimIndex) → same ≡ es
-    → as_before ≡ names → KeepsFound old new → IsDayKept es names old → IsDayKept same as_before new
-kept_found es same names as_before old new e f kept h =
-    subst (λ (xs : List Entry). IsDayKept xs as_before new) (sym e)
-    (subst (λ (ns : List (List ℕ)). IsDayKept es ns new) (sym f)
-    (record { kept = h.kept; fit = h.fit; found = found_kept old new (asserted_from 1 es) kept h.found }))
+pub kept_found : (es same : List Entry) (old new : ClaimIndex) → same ≡ es → KeepsFound old new → IsDayKept es old
+    → IsDayKept same new
+kept_found es same old new e kept h = subst (λ (xs : List Entry). IsDayKept xs new) (sym e)
+    (record { within = h.within; fit = h.fit; found = found_kept old new (asserted_from 1 es) kept h.found })
 
 -- ---- the rows of accounts
 pub listed_kept : (old new : List ℕ) (index : NamedSpots) (a : List ℕ) → ((n : ℕ) → Contains old n → Contains new n)

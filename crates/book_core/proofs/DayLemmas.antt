@@ -18,12 +18,12 @@ use Rattle.book_core.specs.declared.place.Until.{Until}
 use Rattle.book_core.specs.declared.place.Until.TheVariants.{Through as ThroughDay}
 use Rattle.book_core.specs.Account.{reaches}
 use Rattle.book_core.specs.Book.{Posted, posted, posted_legs, posted_from}
-use Rattle.book_core.specs.Balance.{balance, total, moved, sum_in, turnover}
+use Rattle.book_core.specs.Balance.{balance, total, moved, turnover}
 use Rattle.book_core.specs.GoodBook.{IsFit, IsWithin, most_turnover}
-use Rattle.book_core.specs.DayRows.{counts_in, AreSums, AreRaised, HasRoomFor, moved_at, AreMoved}
+use Rattle.book_core.specs.DayRows.{Takes, counts_in, sum_where, AreSums, AreRaised, HasRoomFor, moved_at, AreMoved}
 use Rattle.book_core.proofs.GoodBookLemmas.{fit-append}
 use Rattle.book_core.proofs.BookLemmas.{turnover-append, posted_from-append}
-use Rattle.book_core.proofs.SumLemmas.{total-append, within_meant}
+use Rattle.book_core.proofs.SumLemmas.{Within, total-append, within_meant}
 
 pub fit_add : (es more : List Entry) (e : Entry) → more ≡ es ++ e ∷ [] → AllByRecursion IsFit es → IsFit e
     → AllByRecursion IsFit more
@@ -31,42 +31,45 @@ fit_add es more e d h k = subst (AllByRecursion IsFit) (sym d) (fit-append es (e
 
 -- ---- sums
 -- over a period: the sum of an entry's legs where its day's number is in it
-total-counts_in : (reach : Reach) (a : List ℕ) (u : Commodity) (p : Period) (day : Day) (n k : ℕ) (legs : List Leg) →
-    total (counts_in reach a u p) (posted_legs day n k legs) ≡ (if is_in p day n then sum_in reach a u legs else pos 0)
-total-counts_in reach a u p day n k legs = by_period (is_in p day n) refl
+pub total-counts_in : (on : List ℕ → Bool) (u : Commodity) (p : Period) (day : Day) (n k : ℕ) (legs : List Leg) →
+    total (counts_in on u p) (posted_legs day n k legs) ≡ (if is_in p day n then sum_where on u legs else pos 0)
+total-counts_in on u p day n k legs = by_period (is_in p day n) refl
   where
     within : is_in p day n ≡ true → (k : ℕ) (xs : List Leg)
-        → total (counts_in reach a u p) (posted_legs day n k xs) ≡ sum_in reach a u xs
+        → total (counts_in on u p) (posted_legs day n k xs) ≡ sum_where on u xs
     within e k [] = refl
     within e k (x ∷ xs) = rw (within e (k + 1) xs)
-        (ap (λ (t : Bool). (if t then x.qty else pos 0) +ℤ sum_in reach a u xs)
-        (and_in (nat_eq x.unit.0 u.0 && reaches reach a x.account)))
+        (ap (λ (t : Bool). (if t then x.qty else pos 0) +ℤ sum_where on u xs) (and_in (nat_eq x.unit.0 u.0 && on x.account)))
       where
         and_in : (t : Bool) → (t && is_in p day n) ≡ t
         and_in true = e
         and_in false = refl
 
     outside : is_in p day n ≡ false → (k : ℕ) (xs : List Leg)
-        → total (counts_in reach a u p) (posted_legs day n k xs) ≡ pos 0
+        → total (counts_in on u p) (posted_legs day n k xs) ≡ pos 0
     outside e k [] = refl
     outside e k (x ∷ xs) = rw (outside e (k + 1) xs)
-        (ap (λ (t : Bool). (if t then x.qty else pos 0) +ℤ pos 0)
-        (and_out (nat_eq x.unit.0 u.0 && reaches reach a x.account)))
+        (ap (λ (t : Bool). (if t then x.qty else pos 0) +ℤ pos 0) (and_out (nat_eq x.unit.0 u.0 && on x.account)))
       where
         and_out : (t : Bool) → (t && is_in p day n) ≡ false
         and_out true = e
         and_out false = refl
 
     by_period : (t : Bool) → is_in p day n ≡ t
-        → total (counts_in reach a u p) (posted_legs day n k legs) ≡ (if t then sum_in reach a u legs else pos 0)
+        → total (counts_in on u p) (posted_legs day n k legs) ≡ (if t then sum_where on u legs else pos 0)
     by_period true e = within e k legs
     by_period false e = outside e k legs
 
-pub room_for : (reach : Reach) (rows : DaySums) (b : List Entry) (e : Entry) (legs : List Leg) → AreSums reach rows b
-    → IsWithin (b ++ e ∷ []) → legs ≡ e.legs → HasRoomFor rows legs
-room_for reach rows b e legs sums within f = record {
-  sums = λ a u p.
-      let w = within_meant reach a u (λ x. is_in p x.place.day x.place.entry) 1 b in
+-- what a book has over a period is within its turnover
+pub within_counted : (on : List ℕ → Bool) (u : Commodity) (p : Period) (b : List Entry)
+    → Within (turnover u b) (total (counts_in on u p) (posted b))
+within_counted on u p b = within_meant on u (λ x. is_in p x.place.day x.place.entry) 1 b
+
+pub room_for : (takes : Takes) (rows : DaySums) (b : List Entry) (e : Entry) (legs : List Leg) → AreSums takes rows b
+    → IsWithin (b ++ e ∷ []) → legs ≡ e.legs → HasRoomFor takes rows legs
+room_for takes rows b e legs sums within f = record {
+  sums = λ a u p name g.
+      let w = within_counted (takes a) u p b in
       let l = w.low in
       let h = w.high in
       let t = within.small u in
@@ -81,34 +84,34 @@ room_for reach rows b e legs sums within f = record {
     moved_one u = ap (moved u) (append-nil e.legs ∙ sym f)
 
 -- the entry that comes after the book has the number after its length
-pub sums_add : (reach : Reach) (old now : DaySums) (b : List Entry) (e : Entry) (legs : List Leg) (n : ℕ)
-    → AreSums reach old b → legs ≡ e.legs → n ≡ length b + 1 → AreRaised reach legs e.day n old now
-    → AreSums reach now (b ++ e ∷ [])
-sums_add reach old now b e legs n sums f g raised a u p =
-    raised a u p ∙ ap (λ (z : ℤ). z +ℤ (if is_in p e.day n then sum_in reach a u legs else pos 0)) (sums a u p)
+pub sums_add : (takes : Takes) (old now : DaySums) (b : List Entry) (e : Entry) (legs : List Leg) (n : ℕ)
+    → AreSums takes old b → legs ≡ e.legs → n ≡ length b + 1 → AreRaised takes legs e.day n old now
+    → AreSums takes now (b ++ e ∷ [])
+sums_add takes old now b e legs n sums f g raised a u p =
+    raised.sums a u p ∙ ap (λ (z : ℤ). z +ℤ (if is_in p e.day n then sum_where (takes a) u legs else pos 0)) (sums a u p)
     ∙ ap (λ (z : ℤ). total test (posted b) +ℤ z)
-    (ap (λ (ls : List Leg). if is_in p e.day n then sum_in reach a u ls else pos 0) f ∙ sym
-    (total-counts_in reach a u p e.day n 1 e.legs) ∙ ap (λ (m : ℕ). total test (posted_legs e.day m 1 e.legs)) g ∙
+    (ap (λ (ls : List Leg). if is_in p e.day n then sum_where (takes a) u ls else pos 0) f ∙ sym
+    (total-counts_in (takes a) u p e.day n 1 e.legs) ∙ ap (λ (m : ℕ). total test (posted_legs e.day m 1 e.legs)) g ∙
     sym (ap (total test) (append-nil (posted_legs e.day (length b + 1) 1 e.legs))))
     ∙ sym (ap (total test) (posted_from-append 1 b (e ∷ [])) ∙ total-append test (posted b)
     (posted_from (length b + 1) (e ∷ [])))
   where
     test : Posted → Bool
-    test = counts_in reach a u p
+    test = counts_in (takes a) u p
 
-pub sums_same : (reach : Reach) (old now : DaySums) (b : List Entry) → AreSums reach old b → SameSums old now
-    → AreSums reach now b
-sums_same reach old now b sums same a u p = same.sums a u p ∙ sums a u p
+pub sums_same : (takes : Takes) (old now : DaySums) (b : List Entry) → AreSums takes old b → SameSums old now
+    → AreSums takes now b
+sums_same takes old now b sums same a u p = same.sums a u p ∙ sums a u p
 
-pub sums_none : (reach : Reach) (rows : DaySums)
-    → ((a : List ℕ) (u : Commodity) (p : Period) → period_sum rows a u p ≡ pos 0) → AreSums reach rows []
-sums_none reach rows e = e
+pub sums_none : (takes : Takes) (rows : DaySums)
+    → ((a : List ℕ) (u : Commodity) (p : Period) → period_sum rows a u p ≡ pos 0) → AreSums takes rows []
+sums_none takes rows e = e
 
 -- through a day: the balance
-pub balance_through : (reach : Reach) (rows : DaySums) (b : List Entry) (a : List ℕ) (u : Commodity) (l : Until)
-    (d : Day) → AreSums reach rows b → l ≡ ThroughDay d → period_sum rows a u (Through d) ≡ balance reach b a u l
+pub balance_through : (reach : Reach) (b : List Entry) (a : List ℕ) (u : Commodity) (l : Until) (d : Day)
+    → l ≡ ThroughDay d → total (counts_in (reaches reach a) u (Through d)) (posted b) ≡ balance reach b a u l
 unfolding balance
-balance_through reach rows b a u l d sums e = sums a u (Through d) ∙ sym (ap (balance reach b a u) e)
+balance_through reach b a u l d e = sym (ap (balance reach b a u) e)
 
 pub moved_none : (table : List ℕ) → table ≡ [] → AreMoved table []
 moved_none table e u = ap (λ (t : List ℕ). moved_at t u) e

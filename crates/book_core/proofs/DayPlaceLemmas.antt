@@ -73,10 +73,10 @@ module _ (reach : Reach) (a : List ℕ) (u : Commodity) (p : Place) (n : ℕ) wh
   at = counts reach a u (At p)
 
   abbrev before : Posted → Bool
-  before = counts_in reach a u (Before p.day)
+  before = counts_in (reaches reach a) u (Before p.day)
 
   abbrev on_day : Posted → Bool
-  on_day = counts_in reach a u (Within p.day (min (p.entry - 1) n))
+  on_day = counts_in (reaches reach a) u (Within p.day (min (p.entry - 1) n))
 
   legs_parts : (day : Day) (m k : ℕ) (legs : List Leg) → 1 ≤ m → m ≤ n
       → total at (posted_legs day m k legs)
@@ -109,8 +109,8 @@ module _ (reach : Reach) (a : List ℕ) (u : Commodity) (p : Place) (n : ℕ) wh
 
 -- the balance at a place in three parts
 pub balance_place : (reach : Reach) (b : List Entry) (a : List ℕ) (u : Commodity) (p : Place) →
-    balance reach b a u (At p) ≡ (total (counts_in reach a u (Before p.day)) (posted b)
-    +ℤ total (counts_in reach a u (Within p.day (min (p.entry - 1) (length b)))) (posted b))
+    balance reach b a u (At p) ≡ (total (counts_in (reaches reach a) u (Before p.day)) (posted b)
+    +ℤ total (counts_in (reaches reach a) u (Within p.day (min (p.entry - 1) (length b)))) (posted b))
     +ℤ total (is_own (counts reach a u (At p)) p) (posted b)
 unfolding balance
 balance_place reach b a u p = entries_parts reach a u p (length b) 1 b (omega arith) (omega arith)

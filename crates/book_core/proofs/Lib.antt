@@ -21,7 +21,13 @@ pub mod PlaceLemmas
 pub mod TouchedLemmas
 pub mod ClaimIndexLemmas
 pub mod DayLemmas
+pub mod AmongLemmas
+pub mod RunLemmas
 pub mod RaiseLemmas
+pub mod BelowLemmas
+pub mod ListedLemmas
+pub mod LegIndexLemmas
+pub mod SumsLemmas
 pub mod DayPlaceLemmas
 pub mod NextLemmas
 pub mod BehindLemmas

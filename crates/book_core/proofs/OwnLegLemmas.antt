@@ -70,30 +70,30 @@ one_more day legs i d l =
 
 pub room_more : (day : Day) (rows : DaySums) (legs seen : List Leg) (i : ℕ) (d : Leg) → i < length legs
     → length legs ≤ most_entries → ((u : Commodity) → moved u legs ≤ most_turnover)
-    → seen ≡ get_or legs i d ∷ [] → AreSums Own rows (singles day (take i legs)) → HasRoomFor rows seen
+    → seen ≡ get_or legs i d ∷ [] → AreSums (reaches Own) rows (singles day (take i legs)) → HasRoomFor (reaches Own) rows seen
 room_more day rows legs seen i d l few room is sums =
-    room_for Own rows (singles day (take i legs)) (record { day = day; legs = get_or legs i d ∷ []; claims = [] }) seen
+    room_for (reaches Own) rows (singles day (take i legs)) (record { day = day; legs = get_or legs i d ∷ []; claims = [] }) seen
     sums (subst IsWithin (one_more day legs i d l)
     (within_left (singles day (take (i + 1) legs)) (singles day (drop (i + 1) legs))
     (subst IsWithin (ap (singles day) (sym (take-append-drop (i + 1) legs)) ∙ singles-append day (take (i + 1) legs)
     (drop (i + 1) legs)) (within_singles day legs few room)))) is
 
 pub sums_more : (day : Day) (old opened now : DaySums) (legs seen : List Leg) (i n : ℕ) (d : Leg) → i < length legs
-    → n ≡ i + 1 → seen ≡ get_or legs i d ∷ [] → AreSums Own old (singles day (take i legs)) → SameSums old opened
-    → AreRaised Own seen day n opened now → AreSums Own now (singles day (take (i + 1) legs))
+    → n ≡ i + 1 → seen ≡ get_or legs i d ∷ [] → AreSums (reaches Own) old (singles day (take i legs)) → SameSums old opened
+    → AreRaised (reaches Own) seen day n opened now → AreSums (reaches Own) now (singles day (take (i + 1) legs))
 sums_more day old opened now legs seen i n d l g is sums same raised =
-    subst (AreSums Own now) (sym (one_more day legs i d l))
-    (sums_add Own opened now (singles day (take i legs))
+    subst (AreSums (reaches Own) now) (sym (one_more day legs i d l))
+    (sums_add (reaches Own) opened now (singles day (take i legs))
     (record { day = day; legs = get_or legs i d ∷ []; claims = [] })
-    seen n (sums_same Own old opened (singles day (take i legs)) sums same) is (g ∙ ap (λ (k : ℕ). k + 1) count) raised)
+    seen n (sums_same (reaches Own) old opened (singles day (take i legs)) sums same) is (g ∙ ap (λ (k : ℕ). k + 1) count) raised)
   where
     count : i ≡ length (singles day (take i legs))
     count = omega (arith, length-singles day (take i legs), length-take-le i legs (omega arith))
 
 pub sums_whole : (day : Day) (rows : DaySums) (items legs : List Leg) (i : ℕ) → items ≡ legs → length items ≤ i
-    → AreSums Own rows (singles day (take i items)) → AreSums Own rows (singles day legs)
+    → AreSums (reaches Own) rows (singles day (take i items)) → AreSums (reaches Own) rows (singles day legs)
 sums_whole day rows items legs i e l h =
-    subst (λ (xs : List Leg). AreSums Own rows (singles day xs)) (take_all i items l ∙ e) h
+    subst (λ (xs : List Leg). AreSums (reaches Own) rows (singles day xs)) (take_all i items l ∙ e) h
 
 -- ---- what the legs up to one of them add
 -- on one day, by number
@@ -134,19 +134,19 @@ same_time day n k l len h =
 
 up_to : (reach : Reach) (a : List ℕ) (u : Commodity) (day : Day) (n l len k : ℕ) (xs : List Leg)
     → k + length xs ≤ len + 1 →
-    total (counts_in reach a u (Within day (min l len))) (posted_from k (singles day xs))
+    total (counts_in (reaches reach a) u (Within day (min l len))) (posted_from k (singles day xs))
     ≡ total (counts reach a u (At (record { day = day; entry = n; leg = l }))) (posted_legs day n k xs)
 up_to reach a u day n l len k [] h = refl
 up_to reach a u day n l len k (x ∷ xs) h =
     ap (λ (t : Bool). (if (nat_eq x.unit.0 u.0 && reaches reach a x.account) && t then x.qty else pos 0)
-    +ℤ total (counts_in reach a u (Within day (min l len))) (posted_from (k + 1) (singles day xs)))
+    +ℤ total (counts_in (reaches reach a) u (Within day (min l len))) (posted_from (k + 1) (singles day xs)))
     (same_time day n k l len (omega arith))
     ∙ ap (λ (z : ℤ). (if (nat_eq x.unit.0 u.0 && reaches reach a x.account)
     && place_le (record { day = day; entry = n; leg = k }) (record { day = day; entry = n; leg = l }) then x.qty
     else pos 0) +ℤ z) (up_to reach a u day n l len (k + 1) xs (omega arith))
 
 pub sum_up_to : (rows : DaySums) (a : List ℕ) (u : Commodity) (day : Day) (n l : ℕ) (legs : List Leg)
-    → AreSums Own rows (singles day legs) →
+    → AreSums (reaches Own) rows (singles day legs) →
     period_sum rows a u (Within day (min l (length legs)))
     ≡ total (counts Own a u (At (record { day = day; entry = n; leg = l }))) (posted_legs day n 1 legs)
 sum_up_to rows a u day n l legs sums =
@@ -214,8 +214,8 @@ module _ (reach : Reach) (a : List ℕ) (u : Commodity) (p : Place) where
       ≡ balance reach b a u (At (start p)) +ℤ total (counts reach a u (At p)) (posted_legs x.day p.entry 1 x.legs)
   balance_start b i x l is number day =
       let here = balance_place reach b a u p in
-      let before : balance reach b a u (At (start p)) ≡ (total (counts_in reach a u (Before p.day)) (posted b)
-      +ℤ total (counts_in reach a u (Within p.day (min (p.entry - 1) (length b)))) (posted b))
+      let before : balance reach b a u (At (start p)) ≡ (total (counts_in (reaches reach a) u (Before p.day)) (posted b)
+      +ℤ total (counts_in (reaches reach a) u (Within p.day (min (p.entry - 1) (length b)))) (posted b))
       +ℤ total (is_own (counts reach a u (At (start p))) (start p)) (posted b) = balance_place reach b a u (start p) in
       let own = own_there (counts reach a u (At p)) p b i x l is number day in
       let none = entries_start 1 b in

@@ -5,7 +5,7 @@ use Rattle.std.proofs.Common.{nat_eq, nat_lt, ◌⊎◌, inl, inr, ℤ, pos, neg
 use Rattle.std.specs.Prelude.{if◌then◌else◌, unsigned_abs}
 use Rattle.std.specs.List.{starts_with}
 use Rattle.std.specs.Str.{bytes_eq}
-use Rattle.std.proofs.lemmas.Bool.{cases_lt}
+use Rattle.std.proofs.lemmas.Bool.{cases_lt, and_parts, or_cases, or_right}
 use Rattle.std.proofs.lemmas.Int.{ints}
 use Rattle.std.proofs.lemmas.Bool.Decides.{nat_tests}
 use Rattle.std.proofs.lemmas.Slice.Eq.{bytes_eq-Decides}
@@ -18,12 +18,12 @@ use Rattle.day_sums.specs.Period.{is_in}
 use Rattle.day_sums.specs.Sums.{period_sum, is_open, share_of, SameSums, RaisedSums, IsSmall}
 use Rattle.day_sums.specs.Points.{IsUpTo}
 use Rattle.book_core.specs.declared.leg.Leg.{Leg}
-use Rattle.book_core.specs.declared.account.Reach.{Reach}
-use Rattle.book_core.specs.declared.account.Reach.TheVariants.{Own, Inside}
+use Rattle.book_core.specs.declared.account.Reach.TheVariants.{Own}
 use Rattle.book_core.specs.Account.{reaches, is_inside, colon}
-use Rattle.book_core.specs.Balance.{moved, sum_in}
+use Rattle.book_core.specs.Balance.{moved}
 use Rattle.book_core.specs.GoodBook.{most_turnover}
-use Rattle.book_core.specs.DayRows.{FrontsOpen, IsOpen, AreOpen, Raised, AreRaised, HasRoomFor}
+use Rattle.book_core.specs.DayRows.{Takes, is_listed_name, takes_listed, takes_below, sum_where, FrontsOpen, IsOpen, AreOpen}
+use Rattle.book_core.specs.DayRows.{Raised, AreRaised, HasRoomFor}
 
 -- ---- the same sums, step by step
 pub same_none : (rows : DaySums) → SameSums rows rows
@@ -33,57 +33,62 @@ pub same_more : (old mid now : DaySums) → SameSums old mid → SameSums mid no
 same_more old mid now h k =
     record { sums = λ a u p. k.sums a u p ∙ h.sums a u p; opened = λ a u d n e. k.opened a u d n (h.opened a u d n e) }
 
-pub fronts_kept : (old now : DaySums) (name : List ℕ) (unit : Commodity) (day : Day) (n : ℕ) (i : ℕ)
-    → ((a : List ℕ) (u : Commodity) (d : Day) (k : ℕ) → is_open old a u d k ≡ true → is_open now a u d k ≡ true)
-    → FrontsOpen old name unit day n i → FrontsOpen now name unit day n i
-fronts_kept old now name unit day n i days h j l e = days (take j name) unit day n (h j l e)
+-- what was open is open
+abbrev pub KeepsOpen : DaySums → DaySums → Type 0
+KeepsOpen old now = (a : List ℕ) (u : Commodity) (d : Day) (k : ℕ) → is_open old a u d k ≡ true
+    → is_open now a u d k ≡ true
+
+pub fronts_kept : (names : List (List ℕ)) (old now : DaySums) (name : List ℕ) (unit : Commodity) (day : Day)
+    (n : ℕ) (i : ℕ) → KeepsOpen old now → FrontsOpen names old name unit day n i
+    → FrontsOpen names now name unit day n i
+fronts_kept names old now name unit day n i kept h j l e t = kept (take j name) unit day n (h j l e t)
 
 -- one more byte
-pub fronts_colon : (rows : DaySums) (name : List ℕ) (unit : Commodity) (day : Day) (n : ℕ) (i : ℕ)
-    → is_open rows (take i name) unit day n ≡ true → FrontsOpen rows name unit day n i
-    → FrontsOpen rows name unit day n (i + 1)
-fronts_colon rows name unit day n i h k j l e = by_place (cases_lt j i)
+pub fronts_colon : (names : List (List ℕ)) (rows : DaySums) (name : List ℕ) (unit : Commodity) (day : Day) (n : ℕ)
+    (i : ℕ) → (is_listed_name names (take i name) ≡ true → is_open rows (take i name) unit day n ≡ true)
+    → FrontsOpen names rows name unit day n i → FrontsOpen names rows name unit day n (i + 1)
+fronts_colon names rows name unit day n i h k j l e = by_place (cases_lt j i)
   where
-    by_place : (j < i) ⊎ (i ≤ j) → is_open rows (take j name) unit day n ≡ true
+    by_place : (j < i) ⊎ (i ≤ j) → is_listed_name names (take j name) ≡ true → is_open rows (take j name) unit day n ≡ true
     by_place (inl m) = k j m e
-    by_place (inr m) = let same : j ≡ i = omega arith in ap (λ (m : ℕ). is_open rows (take m name) unit day n) same ∙ h
+    by_place (inr m) = let same : j ≡ i = omega arith in subst (λ (m : ℕ). is_listed_name names (take m name) ≡ true
+        → is_open rows (take m name) unit day n ≡ true) (sym same) h
 
-pub fronts_other : (rows : DaySums) (name : List ℕ) (unit : Commodity) (day : Day) (n : ℕ) (i : ℕ)
-    → (get_or name i 0 ≡ colon → ⊥) → FrontsOpen rows name unit day n i → FrontsOpen rows name unit day n (i + 1)
-fronts_other rows name unit day n i h k j l e = by_place (cases_lt j i)
+pub fronts_other : (names : List (List ℕ)) (rows : DaySums) (name : List ℕ) (unit : Commodity) (day : Day) (n : ℕ)
+    (i : ℕ) → (get_or name i 0 ≡ colon → ⊥) → FrontsOpen names rows name unit day n i
+    → FrontsOpen names rows name unit day n (i + 1)
+fronts_other names rows name unit day n i h k j l e = by_place (cases_lt j i)
   where
-    by_place : (j < i) ⊎ (i ≤ j) → is_open rows (take j name) unit day n ≡ true
+    by_place : (j < i) ⊎ (i ≤ j) → is_listed_name names (take j name) ≡ true → is_open rows (take j name) unit day n ≡ true
     by_place (inl m) = k j m e
     by_place (inr m) = let same : j ≡ i = omega arith in absurd (h (ap (λ (m : ℕ). get_or name m 0) (sym same) ∙ e))
 
-pub is_open_kept : (reach : Reach) (old now : DaySums) (name : List ℕ) (unit : Commodity) (day : Day) (n : ℕ)
-    → ((a : List ℕ) (u : Commodity) (d : Day) (k : ℕ) → is_open old a u d k ≡ true → is_open now a u d k ≡ true)
-    → IsOpen reach old name unit day n → IsOpen reach now name unit day n
-is_open_kept Own old now name unit day n days h = days name unit day n h
-is_open_kept Inside old now name unit day n days h =
-    (fronts_kept old now name unit day n (length name) days h.0, days name unit day n h.1)
+pub are_open_kept : (takes : Takes) (old now : DaySums) (legs : List Leg) (day : Day) (n : ℕ) → KeepsOpen old now
+    → AreOpen takes old legs day n → AreOpen takes now legs day n
+are_open_kept takes old now [] day n kept h = tt
+are_open_kept takes old now (x ∷ xs) day n kept h =
+    (λ a t. kept a x.unit day n (h.0 a t), are_open_kept takes old now xs day n kept h.1)
 
-pub are_open_kept : (reach : Reach) (old now : DaySums) (legs : List Leg) (day : Day) (n : ℕ)
-    → ((a : List ℕ) (u : Commodity) (d : Day) (k : ℕ) → is_open old a u d k ≡ true → is_open now a u d k ≡ true)
-    → AreOpen reach old legs day n → AreOpen reach now legs day n
-are_open_kept reach old now [] day n days h = tt
-are_open_kept reach old now (x ∷ xs) day n days h =
-    (is_open_kept reach old now x.account x.unit day n days h.0, are_open_kept reach old now xs day n days h.1)
+-- the account's own row
+pub own_open : (rows : DaySums) (name : List ℕ) (unit : Commodity) (day : Day) (n : ℕ)
+    → is_open rows name unit day n ≡ true → IsOpen (reaches Own) rows name unit day n
+own_open rows name unit day n h a t =
+    subst (λ (b : List ℕ). is_open rows b unit day n ≡ true) ((bytes_eq-Decides name a).0 t) h
 
-open_next : (reach : Reach) (rows : DaySums) (legs : List Leg) (day : Day) (n : ℕ) (i : ℕ) (x : Leg) → i < length legs
-    → x ≡ get_or legs i x → AreOpen reach rows (take i legs) day n → IsOpen reach rows x.account x.unit day n
-    → AreOpen reach rows (take (suc i) legs) day n
-open_next reach rows [] day n i x l e h k = absurd (omega arith)
-open_next reach rows (y ∷ ys) day n zero x l e h k =
-    (subst (λ (z : Leg). IsOpen reach rows z.account z.unit day n) e k, tt)
-open_next reach rows (y ∷ ys) day n (suc i) x l e h k = (h.0, open_next reach rows ys day n i x (omega arith) e h.1 k)
+open_next : (takes : Takes) (rows : DaySums) (legs : List Leg) (day : Day) (n : ℕ) (i : ℕ) (x : Leg) → i < length legs
+    → x ≡ get_or legs i x → AreOpen takes rows (take i legs) day n → IsOpen takes rows x.account x.unit day n
+    → AreOpen takes rows (take (suc i) legs) day n
+open_next takes rows [] day n i x l e h k = absurd (omega arith)
+open_next takes rows (y ∷ ys) day n zero x l e h k =
+    (subst (λ (z : Leg). IsOpen takes rows z.account z.unit day n) e k, tt)
+open_next takes rows (y ∷ ys) day n (suc i) x l e h k = (h.0, open_next takes rows ys day n i x (omega arith) e h.1 k)
 
-pub open_more : (reach : Reach) (rows : DaySums) (legs : List Leg) (day : Day) (n : ℕ) (i : ℕ) (x : Leg)
-    → i < length legs → x ≡ get_or legs i x → AreOpen reach rows (take i legs) day n
-    → IsOpen reach rows x.account x.unit day n → AreOpen reach rows (take (i + 1) legs) day n
-open_more reach rows legs day n i x l e h k =
-    subst (λ (j : ℕ). AreOpen reach rows (take j legs) day n) (sym (add-one i))
-    (open_next reach rows legs day n i x l e h k)
+pub open_more : (takes : Takes) (rows : DaySums) (legs : List Leg) (day : Day) (n : ℕ) (i : ℕ) (x : Leg)
+    → i < length legs → x ≡ get_or legs i x → AreOpen takes rows (take i legs) day n
+    → IsOpen takes rows x.account x.unit day n → AreOpen takes rows (take (i + 1) legs) day n
+open_more takes rows legs day n i x l e h k =
+    subst (λ (j : ℕ). AreOpen takes rows (take j legs) day n) (sym (add-one i))
+    (open_next takes rows legs day n i x l e h k)
 
 -- ---- the fronts of a name
 -- a is a front of the name that ends before one of its first i bytes, a colon
@@ -94,7 +99,7 @@ and_false : (t : Bool) → (t && false) ≡ false
 and_false true = refl
 and_false false = refl
 
-front_take : (name : List ℕ) (i : ℕ) → i < length name → get_or name i 0 ≡ colon
+pub front_take : (name : List ℕ) (i : ℕ) → i < length name → get_or name i 0 ≡ colon
     → starts_with nat_eq name (take i name ++ colon ∷ []) ≡ true
 front_take [] i h e = absurd (omega arith)
 front_take (x ∷ xs) zero h e = rw e refl
@@ -204,86 +209,122 @@ front_all name a i h = by_tests (bytes_eq name a) (starts_with nat_eq name (a ++
         (let m = (front_is name a s).1 in grind (arith, nat_tests)) in (rw n refl, λ k. absurd (cc))
     by_tests false false e s = (sym (ap (λ (b : Bool). b || false) (and_false (nat_lt (length a) i))), λ k. absurd (cc))
 
+-- the fronts and the name are what is inside
+pub inside_front : (name : List ℕ) (i : ℕ) → i < length name → get_or name i 0 ≡ colon
+    → is_inside (take i name) name ≡ true
+inside_front name i h e = or_right (bytes_eq name (take i name)) _ (front_take name i h e)
+
+pub inside_itself : (name : List ℕ) → is_inside name name ≡ true
+inside_itself name =
+    ap (λ (t : Bool). t || starts_with nat_eq name (name ++ colon ∷ [])) ((bytes_eq-Decides name name).1 refl)
+
+pub fronts_all : (names : List (List ℕ)) (rows : DaySums) (name : List ℕ) (unit : Commodity) (day : Day) (n : ℕ)
+    (i : ℕ) → length name ≤ i → FrontsOpen names rows name unit day n i
+    → (is_listed_name names name ≡ true → is_open rows name unit day n ≡ true)
+    → IsOpen (takes_below names) rows name unit day n
+fronts_all names rows name unit day n i l h k a t =
+    let both = and_parts (is_listed_name names a) (is_inside a name) t in
+    by_case both.0 (or_cases (bytes_eq name a) (starts_with nat_eq name (a ++ colon ∷ [])) both.1)
+  where
+    by_case : is_listed_name names a ≡ true
+        → (bytes_eq name a ≡ true) ⊎ (starts_with nat_eq name (a ++ colon ∷ []) ≡ true)
+        → is_open rows a unit day n ≡ true
+    by_case m (inl e) = let same : name ≡ a = (bytes_eq-Decides name a).0 e in
+        subst (λ (b : List ℕ). is_open rows b unit day n ≡ true) same
+        (k (subst (λ (b : List ℕ). is_listed_name names b ≡ true) (sym same) m))
+    by_case m (inr s) = let f = front_is name a s in
+        subst (λ (b : List ℕ). is_open rows b unit day n ≡ true) f.0
+        (h (length a) (omega (arith, f.1)) f.2 (subst (λ (b : List ℕ). is_listed_name names b ≡ true) (sym f.0) m))
+
 -- ---- sums of the fronts
 abbrev pub part : Bool → Bool → Bool → ℤ → ℤ
 part unit front on q = if (unit && front) && on then q else pos 0
 
--- the sums of the fronts among the first i bytes are raised
-pub record RaisedFronts (name : List ℕ) (unit : Commodity) (day : Day) (n : ℕ) (q : ℤ) (i : ℕ)
+-- the sums of the listed ones of the fronts among the first i bytes are raised
+pub record RaisedFronts (names : List (List ℕ)) (name : List ℕ) (unit : Commodity) (day : Day) (n : ℕ) (q : ℤ) (i : ℕ)
     (old now : DaySums) : Type 0 where
-  pub sums : (a : List ℕ) (u : Commodity) (p : Period)
-      → period_sum now a u p ≡ period_sum old a u p +ℤ part (nat_eq unit.0 u.0) (is_front i name a) (is_in p day n) q
-  pub opened : (a : List ℕ) (u : Commodity) (d : Day) (k : ℕ) → is_open old a u d k ≡ true → is_open now a u d k ≡ true
+  pub sums : (a : List ℕ) (u : Commodity) (p : Period) → period_sum now a u p
+      ≡ period_sum old a u p
+      +ℤ part (nat_eq unit.0 u.0) (is_listed_name names a && is_front i name a) (is_in p day n) q
+  pub opened : KeepsOpen old now
 
-two_parts : (unit front new on : Bool) (q z : ℤ) → (new ≡ true → front ≡ false)
-    → (z +ℤ part unit front on q) +ℤ part unit new on q ≡ z +ℤ part unit (front || new) on q
-two_parts false front new on q z h = omega (arith, ints)
-two_parts true true true on q z h = absurd (let k = h refl in cc)
-two_parts true true false on q z h = omega (arith, ints)
-two_parts true false new on q z h = omega (arith, ints)
+two_parts : (unit listed front new on : Bool) (q z : ℤ) → (new ≡ true → front ≡ false)
+    → (z +ℤ part unit (listed && front) on q) +ℤ part unit (listed && new) on q
+    ≡ z +ℤ part unit (listed && (front || new)) on q
+two_parts false listed front new on q z h = omega (arith, ints)
+two_parts true false front new on q z h = omega (arith, ints)
+two_parts true true true true on q z h = absurd (let k = h refl in cc)
+two_parts true true true false on q z h = omega (arith, ints)
+two_parts true true false new on q z h = omega (arith, ints)
 
-pub raised_none : (name : List ℕ) (unit : Commodity) (day : Day) (n : ℕ) (q : ℤ) (rows : DaySums)
-    → RaisedFronts name unit day n q 0 rows rows
-raised_none name unit day n q rows = record { sums = none; opened = λ a u d k h. h }
-  where
-    none : (a : List ℕ) (u : Commodity) (p : Period)
-        → period_sum rows a u p ≡ period_sum rows a u p +ℤ part (nat_eq unit.0 u.0) (is_front 0 name a) (is_in p day n)
-        q
-    none a u p =
-        let l : nat_lt (length a) 0 ≡ false = grind (arith, nat_tests) in
-        by_unit (nat_eq unit.0 u.0) (is_front 0 name a) (rw l refl)
-      where
-        by_unit : (t f : Bool) → f ≡ false → period_sum rows a u p ≡ period_sum rows a u p +ℤ part t f (is_in p day n) q
-        by_unit true true e = absurd (cc)
-        by_unit true false e = omega (arith, ints)
-        by_unit false f e = omega (arith, ints)
+and_none : (t : Bool) → (t && false) ≡ false
+and_none true = refl
+and_none false = refl
 
-pub raised_colon : (name : List ℕ) (unit : Commodity) (day : Day) (n : ℕ) (q : ℤ) (i : ℕ) (old mid now : DaySums)
-    → i < length name → get_or name i 0 ≡ colon → RaisedFronts name unit day n q i old mid
-    → RaisedSums (take i name) unit day n q mid now → RaisedFronts name unit day n q (i + 1) old now
-raised_colon name unit day n q i old mid now h e k m = record {
+part_none : (unit front on : Bool) (q z : ℤ) → front ≡ false → z +ℤ part unit front on q ≡ z
+part_none true true on q z e = absurd (cc)
+part_none true false on q z e = omega (arith, ints)
+part_none false front on q z e = omega (arith, ints)
+
+pub raised_none : (names : List (List ℕ)) (name : List ℕ) (unit : Commodity) (day : Day) (n : ℕ) (q : ℤ)
+    (rows : DaySums) → RaisedFronts names name unit day n q 0 rows rows
+raised_none names name unit day n q rows = record {
+  sums = λ a u p. let l : nat_lt (length a) 0 ≡ false = grind (arith, nat_tests) in
+      sym (part_none (nat_eq unit.0 u.0) (is_listed_name names a && is_front 0 name a) (is_in p day n) q
+      (period_sum rows a u p) (ap (λ (t : Bool). is_listed_name names a && (t && starts_with nat_eq name (a ++ colon ∷ []))) l
+      ∙ and_none (is_listed_name names a)));
+  opened = λ a u d k h. h;
+}
+
+pub raised_colon : (names : List (List ℕ)) (name : List ℕ) (unit : Commodity) (day : Day) (n : ℕ) (q : ℤ) (i : ℕ)
+    (old mid now : DaySums) → i < length name → get_or name i 0 ≡ colon
+    → RaisedFronts names name unit day n q i old mid
+    → Raised (takes_listed names) (take i name) unit day n q mid now
+    → RaisedFronts names name unit day n q (i + 1) old now
+raised_colon names name unit day n q i old mid now h e k m = record {
   sums = λ a u p.
-      m.sums a u p ∙ ap (λ (z : ℤ). z +ℤ share_of (take i name) unit day n q a u p) (k.sums a u p) ∙ two_parts
-      (nat_eq unit.0 u.0) (is_front i name a) (bytes_eq (take i name) a) (is_in p day n) q (period_sum old a u p)
-      (front_colon name a i h e).1
-      ∙ ap (λ (t : Bool). period_sum old a u p +ℤ part (nat_eq unit.0 u.0) t (is_in p day n) q)
+      m.sums a u p ∙ ap (λ (z : ℤ). z +ℤ part (nat_eq unit.0 u.0) (takes_listed names a (take i name))
+      (is_in p day n) q) (k.sums a u p) ∙ two_parts (nat_eq unit.0 u.0) (is_listed_name names a) (is_front i name a)
+      (bytes_eq (take i name) a) (is_in p day n) q (period_sum old a u p) (front_colon name a i h e).1
+      ∙ ap (λ (t : Bool). period_sum old a u p +ℤ part (nat_eq unit.0 u.0) (is_listed_name names a && t) (is_in p day n) q)
       (sym (front_colon name a i h e).0);
   opened = λ a u d j g. m.opened a u d j (k.opened a u d j g);
 }
 
-pub raised_other : (name : List ℕ) (unit : Commodity) (day : Day) (n : ℕ) (q : ℤ) (i : ℕ) (old now : DaySums)
-    → (get_or name i 0 ≡ colon → ⊥) → RaisedFronts name unit day n q i old now
-    → RaisedFronts name unit day n q (i + 1) old now
-raised_other name unit day n q i old now h k = record {
-  sums = λ a u p. k.sums a u p ∙ ap (λ (t : Bool). period_sum old a u p +ℤ part (nat_eq unit.0 u.0) t (is_in p day n) q)
+pub raised_other : (names : List (List ℕ)) (name : List ℕ) (unit : Commodity) (day : Day) (n : ℕ) (q : ℤ) (i : ℕ)
+    (old now : DaySums) → (get_or name i 0 ≡ colon → ⊥) → RaisedFronts names name unit day n q i old now
+    → RaisedFronts names name unit day n q (i + 1) old now
+raised_other names name unit day n q i old now h k = record {
+  sums = λ a u p. k.sums a u p
+      ∙ ap (λ (t : Bool). period_sum old a u p +ℤ part (nat_eq unit.0 u.0) (is_listed_name names a && t) (is_in p day n) q)
       (sym (front_other name a i h));
   opened = k.opened;
 }
 
-pub raised_all : (name : List ℕ) (unit : Commodity) (day : Day) (n : ℕ) (q : ℤ) (i : ℕ) (old mid now : DaySums)
-    → length name ≤ i → RaisedFronts name unit day n q i old mid → RaisedSums name unit day n q mid now
-    → Raised Inside name unit day n q old now
-raised_all name unit day n q i old mid now h k m = record {
+pub raised_all : (names : List (List ℕ)) (name : List ℕ) (unit : Commodity) (day : Day) (n : ℕ) (q : ℤ) (i : ℕ)
+    (old mid now : DaySums) → length name ≤ i → RaisedFronts names name unit day n q i old mid
+    → Raised (takes_listed names) name unit day n q mid now → Raised (takes_below names) name unit day n q old now
+raised_all names name unit day n q i old mid now h k m = record {
   sums = λ a u p.
-      m.sums a u p ∙ ap (λ (z : ℤ). z +ℤ share_of name unit day n q a u p) (k.sums a u p) ∙ two_parts
-      (nat_eq unit.0 u.0) (is_front i name a) (bytes_eq name a) (is_in p day n) q (period_sum old a u p)
-      (front_all name a i h).1
-      ∙ ap (λ (t : Bool). period_sum old a u p +ℤ part (nat_eq unit.0 u.0) t (is_in p day n) q)
+      m.sums a u p ∙ ap (λ (z : ℤ). z +ℤ part (nat_eq unit.0 u.0) (takes_listed names a name) (is_in p day n) q)
+      (k.sums a u p) ∙ two_parts (nat_eq unit.0 u.0) (is_listed_name names a) (is_front i name a) (bytes_eq name a)
+      (is_in p day n) q (period_sum old a u p) (front_all name a i h).1
+      ∙ ap (λ (t : Bool). period_sum old a u p +ℤ part (nat_eq unit.0 u.0) (is_listed_name names a && t) (is_in p day n) q)
       (sym (front_all name a i h).0);
   opened = λ a u d j g. m.opened a u d j (k.opened a u d j g);
 }
 
 -- what is still to be raised has its old sums
-pub small_front : (name : List ℕ) (unit : Commodity) (day : Day) (n : ℕ) (q : ℤ) (i : ℕ) (old now : DaySums)
-    (a : List ℕ) → is_front i name a ≡ false → RaisedFronts name unit day n q i old now
-    → ((b : List ℕ) (p : Period) → IsSmall (period_sum old b unit p)) → (p : Period) → IsSmall (period_sum now a unit p)
-small_front name unit day n q i old now a e k small p =
-    subst IsSmall (sym (k.sums a unit p ∙ by_unit (nat_eq unit.0 unit.0) (is_front i name a) e)) (small a p)
-  where
-    by_unit : (t f : Bool) → f ≡ false → period_sum old a unit p +ℤ part t f (is_in p day n) q ≡ period_sum old a unit p
-    by_unit true true g = absurd (cc)
-    by_unit true false g = omega (arith, ints)
-    by_unit false f g = omega (arith, ints)
+pub small_front : (names : List (List ℕ)) (name : List ℕ) (unit : Commodity) (day : Day) (n : ℕ) (q : ℤ) (i : ℕ)
+    (old now : DaySums) (a : List ℕ) → is_front i name a ≡ false → RaisedFronts names name unit day n q i old now
+    → is_inside a name ≡ true
+    → ((b : List ℕ) (p : Period) → takes_below names b name ≡ true → IsSmall (period_sum old b unit p))
+    → is_listed_name names a ≡ true → (p : Period) → IsSmall (period_sum now a unit p)
+small_front names name unit day n q i old now a e k inside small t p =
+    subst IsSmall (sym (k.sums a unit p ∙ part_none (nat_eq unit.0 unit.0) (is_listed_name names a && is_front i name a)
+    (is_in p day n) q (period_sum old a unit p) (ap (λ (f : Bool). is_listed_name names a && f) e
+    ∙ and_none (is_listed_name names a))))
+    (small a p (rw t inside))
 
 pub front_itself : (name a : List ℕ) (i : ℕ) → i ≤ length a → is_front i name a ≡ false
 front_itself name a i h = let n : nat_lt (length a) i ≡ false = grind (arith, nat_tests) in rw n refl
@@ -293,15 +334,15 @@ take_length name i h = omega (arith, length-take name i (omega arith))
 
 -- ---- the legs of an entry, one after another
 pub own_raised : (name : List ℕ) (unit : Commodity) (day : Day) (n : ℕ) (q : ℤ) (old now : DaySums)
-    → RaisedSums name unit day n q old now → Raised Own name unit day n q old now
+    → RaisedSums name unit day n q old now → Raised (reaches Own) name unit day n q old now
 own_raised name unit day n q old now h = record { sums = h.sums; opened = h.opened }
 
-pub open_at : (reach : Reach) (rows : DaySums) (legs : List Leg) (day : Day) (n : ℕ) (i : ℕ) (x : Leg)
-    → AreOpen reach rows legs day n → i < length legs → x ≡ get_or legs i x → IsOpen reach rows x.account x.unit day n
-open_at reach rows [] day n i x h l e = absurd (omega arith)
-open_at reach rows (y ∷ ys) day n zero x h l e =
-    subst (λ (z : Leg). IsOpen reach rows z.account z.unit day n) (sym e) h.0
-open_at reach rows (y ∷ ys) day n (suc i) x h l e = open_at reach rows ys day n i x h.1 (omega arith) e
+pub open_at : (takes : Takes) (rows : DaySums) (legs : List Leg) (day : Day) (n : ℕ) (i : ℕ) (x : Leg)
+    → AreOpen takes rows legs day n → i < length legs → x ≡ get_or legs i x → IsOpen takes rows x.account x.unit day n
+open_at takes rows [] day n i x h l e = absurd (omega arith)
+open_at takes rows (y ∷ ys) day n zero x h l e =
+    subst (λ (z : Leg). IsOpen takes rows z.account z.unit day n) (sym e) h.0
+open_at takes rows (y ∷ ys) day n (suc i) x h l e = open_at takes rows ys day n i x h.1 (omega arith) e
 
 upto_add : (m n k : ℕ) (z q : ℤ) → IsUpTo m z → unsigned_abs q ≡ n → m + n ≤ k → IsUpTo k (z +ℤ q)
 upto_add m n k z (pos x) h e l =
@@ -324,23 +365,26 @@ pub moved_own : (x : Leg) (rest : List Leg) → moved x.unit (x ∷ rest) ≡ un
 moved_own x rest = let t : nat_eq x.unit.0 x.unit.0 ≡ true = grind (arith, nat_tests) in rw t refl
 
 -- how far the legs are added
-pub record Adding (reach : Reach) (legs : List Leg) (day : Day) (n : ℕ) (i : ℕ) (old now : DaySums) : Type 0 where
-  pub room : HasRoomFor now (drop i legs)
+pub record Adding (takes : Takes) (legs : List Leg) (day : Day) (n : ℕ) (i : ℕ) (old now : DaySums) : Type 0 where
+  pub room : HasRoomFor takes now (drop i legs)
+  pub opened : KeepsOpen old now
   pub sums : (a : List ℕ) (u : Commodity) (p : Period)
-      → period_sum now a u p +ℤ (if is_in p day n then sum_in reach a u (drop i legs) else pos 0)
-      ≡ period_sum old a u p +ℤ (if is_in p day n then sum_in reach a u legs else pos 0)
+      → period_sum now a u p +ℤ (if is_in p day n then sum_where (takes a) u (drop i legs) else pos 0)
+      ≡ period_sum old a u p +ℤ (if is_in p day n then sum_where (takes a) u legs else pos 0)
 
-pub adding_none : (reach : Reach) (legs : List Leg) (day : Day) (n : ℕ) (rows : DaySums) → HasRoomFor rows legs
-    → Adding reach legs day n 0 rows rows
-adding_none reach legs day n rows h = record { room = h; sums = λ a u p. refl }
+pub adding_none : (takes : Takes) (legs : List Leg) (day : Day) (n : ℕ) (rows : DaySums) → HasRoomFor takes rows legs
+    → Adding takes legs day n 0 rows rows
+adding_none takes legs day n rows h = record { room = h; opened = λ a u d k g. g; sums = λ a u p. refl }
 
-pub adding_small : (reach : Reach) (legs : List Leg) (day : Day) (n : ℕ) (i : ℕ) (old now : DaySums)
-    → Adding reach legs day n i old now → (a : List ℕ) (u : Commodity) (p : Period) → IsSmall (period_sum now a u p)
-adding_small reach legs day n i old now h a u p = upto_small _ (period_sum now a u p) (h.room.sums a u p) (omega arith)
+pub adding_small : (takes : Takes) (legs : List Leg) (day : Day) (n : ℕ) (i : ℕ) (old now : DaySums)
+    → Adding takes legs day n i old now → (a : List ℕ) (u : Commodity) (p : Period) (name : List ℕ)
+    → takes a name ≡ true → IsSmall (period_sum now a u p)
+adding_small takes legs day n i old now h a u p name t =
+    upto_small _ (period_sum now a u p) (h.room.sums a u p name t) (omega arith)
 
-pub adding_qty : (reach : Reach) (legs : List Leg) (day : Day) (n : ℕ) (i : ℕ) (x : Leg) (old now : DaySums)
-    → Adding reach legs day n i old now → i < length legs → x ≡ get_or legs i x → IsSmall x.qty
-adding_qty reach legs day n i x old now h l e =
+pub adding_qty : (takes : Takes) (legs : List Leg) (day : Day) (n : ℕ) (i : ℕ) (x : Leg) (old now : DaySums)
+    → Adding takes legs day n i old now → i < length legs → x ≡ get_or legs i x → IsSmall x.qty
+adding_qty takes legs day n i x old now h l e =
     abs_small x.qty
     (omega (
       arith,
@@ -348,23 +392,24 @@ adding_qty reach legs day n i x old now h l e =
       ap (moved x.unit) (drop_at legs i x l e) ∙ moved_own x (drop (i + 1) legs),
     ))
 
-pub adding_more : (reach : Reach) (legs : List Leg) (day : Day) (n : ℕ) (i : ℕ) (x : Leg) (old mid now : DaySums)
-    → i < length legs → x ≡ get_or legs i x → Adding reach legs day n i old mid
-    → Raised reach x.account x.unit day n x.qty mid now → Adding reach legs day n (i + 1) old now
-adding_more reach legs day n i x old mid now l e h k = record {
+pub adding_more : (takes : Takes) (legs : List Leg) (day : Day) (n : ℕ) (i : ℕ) (x : Leg) (old mid now : DaySums)
+    → i < length legs → x ≡ get_or legs i x → Adding takes legs day n i old mid
+    → Raised takes x.account x.unit day n x.qty mid now → Adding takes legs day n (i + 1) old now
+adding_more takes legs day n i x old mid now l e h k = record {
   room = record {
-    sums = λ a u p. subst (IsUpTo (most_turnover - moved u rest)) (sym (k.sums a u p))
-        (one_up (nat_eq x.unit.0 u.0) (reaches reach a x.account) (is_in p day n) (moved u rest) (period_sum mid a u p)
+    sums = λ a u p name g. subst (IsUpTo (most_turnover - moved u rest)) (sym (k.sums a u p))
+        (one_up (nat_eq x.unit.0 u.0) (takes a x.account) (is_in p day n) (moved u rest) (period_sum mid a u p)
         (subst (λ (ls : List Leg). moved u ls ≤ most_turnover) parts (h.room.legs_small u))
         (subst (λ (ls : List Leg). IsUpTo (most_turnover - moved u ls) (period_sum mid a u p)) parts
-        (h.room.sums a u p)));
+        (h.room.sums a u p name g)));
     legs_small = λ u. omega (arith, h.room.legs_small u, ap (moved u) parts);
   };
+  opened = λ a u d j g. k.opened a u d j (h.opened a u d j g);
   sums = λ a u p.
-      ap (λ (z : ℤ). z +ℤ (if is_in p day n then sum_in reach a u rest else pos 0)) (k.sums a u p)
-      ∙ join (nat_eq x.unit.0 u.0 && reaches reach a x.account) (is_in p day n) (period_sum mid a u p)
-      (sum_in reach a u rest)
-      ∙ ap (λ (ls : List Leg). period_sum mid a u p +ℤ (if is_in p day n then sum_in reach a u ls else pos 0))
+      ap (λ (z : ℤ). z +ℤ (if is_in p day n then sum_where (takes a) u rest else pos 0)) (k.sums a u p)
+      ∙ join (nat_eq x.unit.0 u.0 && takes a x.account) (is_in p day n) (period_sum mid a u p)
+      (sum_where (takes a) u rest)
+      ∙ ap (λ (ls : List Leg). period_sum mid a u p +ℤ (if is_in p day n then sum_where (takes a) u ls else pos 0))
       (sym parts) ∙ h.sums a u p;
 }
   where
@@ -392,10 +437,13 @@ adding_more reach legs day n i x old mid now l e h k = record {
         by_on true = omega (arith, ints)
         by_on false = omega (arith, ints)
 
-pub adding_all : (reach : Reach) (legs : List Leg) (day : Day) (n : ℕ) (i : ℕ) (old now : DaySums) → length legs ≤ i
-    → Adding reach legs day n i old now → AreRaised reach legs day n old now
-adding_all reach legs day n i old now h k a u p =
-    by_day (is_in p day n) (period_sum now a u p) (sum_in reach a u (drop i legs)) none ∙ k.sums a u p
+pub adding_all : (takes : Takes) (legs : List Leg) (day : Day) (n : ℕ) (i : ℕ) (old now : DaySums) → length legs ≤ i
+    → Adding takes legs day n i old now → AreRaised takes legs day n old now
+adding_all takes legs day n i old now h k = record {
+  sums = λ a u p. by_day (is_in p day n) (period_sum now a u p) (sum_where (takes a) u (drop i legs))
+      (ap (sum_where (takes a) u) (past legs i h)) ∙ k.sums a u p;
+  opened = k.opened;
+}
   where
     past : (xs : List Leg) (j : ℕ) → length xs ≤ j → drop j xs ≡ []
     past [] zero l = refl
@@ -403,9 +451,43 @@ adding_all reach legs day n i old now h k a u p =
     past (y ∷ ys) zero l = absurd (omega arith)
     past (y ∷ ys) (suc j) l = past ys j (omega arith)
 
-    none : sum_in reach a u (drop i legs) ≡ pos 0
-    none = ap (sum_in reach a u) (past legs i h)
-
     by_day : (t : Bool) (z s : ℤ) → s ≡ pos 0 → z ≡ z +ℤ (if t then s else pos 0)
     by_day true z s e = omega (arith, ints)
     by_day false z s e = omega (arith, ints)
+
+-- ---- a listed account's own row
+pub listed_raised : (names : List (List ℕ)) (name : List ℕ) (unit : Commodity) (day : Day) (n : ℕ) (q : ℤ)
+    (old now : DaySums) → is_listed_name names name ≡ true → RaisedSums name unit day n q old now
+    → Raised (takes_listed names) name unit day n q old now
+listed_raised names name unit day n q old now t h = record {
+  sums = λ a u p. h.sums a u p
+      ∙ ap (λ (b : Bool). period_sum old a u p +ℤ part (nat_eq unit.0 u.0) b (is_in p day n) q) (sym (same a));
+  opened = h.opened;
+}
+  where
+    same : (a : List ℕ) → takes_listed names a name ≡ bytes_eq name a
+    same a = by_test (bytes_eq name a) refl
+      where
+        by_test : (b : Bool) → bytes_eq name a ≡ b → (is_listed_name names a && b) ≡ b
+        by_test true e = rw (subst (λ (x : List ℕ). is_listed_name names x ≡ true) ((bytes_eq-Decides name a).0 e) t) refl
+        by_test false e = and_none (is_listed_name names a)
+
+pub unlisted_raised : (names : List (List ℕ)) (name : List ℕ) (unit : Commodity) (day : Day) (n : ℕ) (q : ℤ)
+    (rows : DaySums) → (is_listed_name names name ≡ true → ⊥) → Raised (takes_listed names) name unit day n q rows rows
+unlisted_raised names name unit day n q rows h = record {
+  sums = λ a u p. sym (part_none (nat_eq unit.0 u.0) (takes_listed names a name) (is_in p day n) q
+      (period_sum rows a u p) (none a));
+  opened = λ a u d k g. g;
+}
+  where
+    none : (a : List ℕ) → takes_listed names a name ≡ false
+    none a = by_test (bytes_eq name a) refl
+      where
+        by_test : (b : Bool) → bytes_eq name a ≡ b → (is_listed_name names a && b) ≡ false
+        by_test true e = by_list (is_listed_name names a) refl
+          where
+            by_list : (l : Bool) → is_listed_name names a ≡ l → (l && true) ≡ false
+            by_list true f = absurd (h (subst (λ (x : List ℕ). is_listed_name names x ≡ true)
+                (sym ((bytes_eq-Decides name a).0 e)) f))
+            by_list false f = refl
+        by_test false e = and_none (is_listed_name names a)

@@ -14,6 +14,8 @@ pub mod Query
 pub mod PlainLedger
 pub mod DayRows
 pub mod DayPlace
+pub mod LegIndex
+pub mod Filling
 pub mod Sums
 pub mod ClaimIndex
 pub mod OwnLegs

@@ -5,6 +5,7 @@ use Rattle.book_core.specs.declared.leg.Leg.{Leg}
 use Rattle.book_core.specs.declared.entry.Entry.{Entry}
 use Rattle.book_core.specs.declared.account.Reach.TheVariants.{Own}
 use Rattle.book_core.specs.declared.own_legs.OwnLegs.{OwnLegs}
+use Rattle.book_core.specs.Account.{reaches}
 use Rattle.book_core.specs.DayRows.{AreSums}
 use Rattle.book_core.specs.GoodBook.{most_entries}
 
@@ -18,7 +19,7 @@ pub record AreOwnOf (own : OwnLegs) (e : Entry) : Type 0 where
   pub day : own.day ≡ e.day
   pub count : own.count ≡ length e.legs
   pub few : own.count ≤ most_entries
-  pub sums : AreSums Own own.rows (singles e.day e.legs)
+  pub sums : AreSums (reaches Own) own.rows (singles e.day e.legs)
 
 -- the sums are those of the entry of a book that has the number
 pub record AreOwnIn (own : OwnLegs) (b : List Entry) : Type 0 where

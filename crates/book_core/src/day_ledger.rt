@@ -9,7 +9,6 @@ ghost use Rattle.book_core.specs.Examine.{examined, ArePlaces};
 ghost use Rattle.book_core.specs.Reached.{reached};
 
 use crate::account::Reach;
-use crate::account_list::{new_accounts, put_accounts};
 use crate::balance::through;
 use crate::claim_index::{ClaimIndex, put_claims};
 use crate::day_book::DayBook;
@@ -29,19 +28,20 @@ use std::marker::Model;
 
 /// The ledger that keeps its sums by day, and examines the assertions that new entries reach.
 ///
-/// `balance` and `balance_in` are one search; `len`, `accounts` and `empty` cost nothing. `check` is one pass over the
-/// new legs for each of their commodities, a search for each account that takes in one of them, and a look at the
-/// assertions after the first new day that look at the account of one of them, or take it in; then, for each assertion
-/// that is reached, a few searches, the legs of its own entry up to its own and a pass over the new ones, and for `==`
+/// `balance` is one search, and so is `balance_in` of an account at which an `=*` or `==*` looks; of another it is one
+/// for each of its subaccounts. `len`, `accounts` and `empty` cost nothing. `check` is one pass over the new legs for
+/// each of their commodities, a search for each account that takes in one of them, and a look at the assertions after
+/// the first new day that look at the account of one of them, or take it in; then, for each assertion that is reached,
+/// a few searches or such balances, the legs of its own entry up to its own and a pass over the new ones, and for `==`
 /// and `==*` as much for each commodity. Where there are many of both, it takes sums of the new entries, and passes
 /// over none of them; and where an entry has many assertions, it takes sums of its legs for those on one account alone.
-/// `add` is, for each leg and each account that takes it in, a search and the days of one row after the entry's own.
-/// `of` is an `add` of each entry and, for each assertion, a few searches and the legs of its own entry up to its own:
-/// the sums by which it judges are the ledger's own.
+/// `add` is, for each leg, a search and the days of one row after the entry's own, and as much for each account above
+/// at which an `=*` or `==*` looks; the first of these on an account costs what its legs and those of its subaccounts
+/// did. `of` is an `add` of each entry and, for each assertion, a few searches and the legs of its own entry up to its
+/// own: the sums by which it judges are the ledger's own.
 #[derive(Drop)]
 pub struct DayLedger {
     entries: Vec<Entry>,
-    accounts: Vec<Text>,
     claims: ClaimIndex,
     sums: Sums,
 }
@@ -57,7 +57,7 @@ impl Model for DayLedger {
 
     ghost view = { λ a. a.entries.items };
 
-    ghost invariant = { λ a. IsDayKept a.entries.items a.accounts.items a.claims × AreSumsOf a.sums a.entries.items };
+    ghost invariant = { λ a. IsDayKept a.entries.items a.claims × AreSumsOf a.sums a.entries.items };
 }
 
 impl DayLedger {
@@ -122,7 +122,6 @@ impl Ledger for DayLedger {
     fn empty(alloc: Global) -> Self {
         DayLedger {
             entries: Vec::new(alloc),
-            accounts: Vec::new(alloc),
             claims: ClaimIndex::empty(alloc),
             sums: Sums::empty(alloc),
         }
@@ -143,7 +142,7 @@ impl Ledger for DayLedger {
     }
 
     fn accounts(&self) -> &[Text] {
-        self.accounts.as_slice()
+        self.sums.accounts.as_slice()
     }
 
     /// The trait's clauses; and Ok has examined exactly the assertions that the new entries reach.
@@ -168,7 +167,7 @@ impl Ledger for DayLedger {
             Ok(places) => places,
             Err(cause) => return Err(Refusal::Plain(cause)),
         };
-        let new = match NewEntries::to_judge(alloc, new, places.len()) {
+        let new = match NewEntries::to_judge(alloc, new, places.len(), &self.sums.watched) {
             Ok(new) => new,
             Err(cause) => return Err(Refusal::Plain(cause)),
         };
@@ -205,16 +204,8 @@ impl Ledger for DayLedger {
         }
     }
 
-    // All room is made before a list changes.
+    // All room, and sums that are missing, are made before a list changes.
     fn add(&mut self, entry: Entry) -> Result<(), Cause> {
-        let alloc = *self.entries.allocator();
-        let fresh = match new_accounts(alloc, &self.accounts, entry.legs.items()) {
-            Ok(fresh) => fresh,
-            Err(cause) => return Err(cause),
-        };
-        if self.accounts.reserve(fresh.len()).is_err() {
-            return Err(Cause::OutOfMemory);
-        }
         if self.entries.reserve(1).is_err() {
             return Err(Cause::OutOfMemory);
         }
@@ -230,7 +221,6 @@ impl Ledger for DayLedger {
             Ok(()) => {}
             Err(_) => unreachable!(),
         }
-        put_accounts(&mut self.accounts, fresh);
         Ok(())
     }
 }

@@ -18,7 +18,7 @@ use crate::place::{Place, Until};
 use crate::sums::Sums;
 use crate::turnover::tally_entries;
 use crate::turnover_table::next_moved;
-use money_core::{Cause, Unit};
+use money_core::{Cause, Text, Unit};
 use std::alloc::Global;
 use std::marker::Model;
 
@@ -87,9 +87,14 @@ impl<'a> NewEntries<'a> {
         }
     }
 
-    /// The entries for so many assertions to be judged, with their sums where there are many of both: 40 where memory
-    /// is refused.
-    pub fn to_judge(alloc: Global, entries: &'a [Entry], assertions: usize) -> Result<Self, Cause>
+    /// The entries for so many assertions to be judged, with their sums where there are many of both, and with those of
+    /// the watched accounts' subaccounts: 40 where memory is refused.
+    pub fn to_judge(
+        alloc: Global,
+        entries: &'a [Entry],
+        assertions: usize,
+        watched: &[Text],
+    ) -> Result<Self, Cause>
         requires { IsWithin entries.now }
         ensures value { IfOk result (λ new. new ≡ entries.now) }
         ensures memory { IsOkUnless result Cause.OutOfMemory }
@@ -97,7 +102,7 @@ impl<'a> NewEntries<'a> {
         if assertions < MANY || !are_many(entries) {
             return Ok(NewEntries::plain(entries));
         }
-        let sums = Some(Sums::of(alloc, entries)?);
+        let sums = Some(Sums::of(alloc, entries, watched)?);
         Ok(NewEntries { entries, sums })
     }
 

@@ -9,13 +9,13 @@ ghost use Rattle.money_core.specs.declared.unit.Unit.{Unit as Commodity};
 ghost use Rattle.day_sums.specs.declared.period.Period.TheVariants.{Within};
 ghost use Rattle.day_sums.specs.Sums.{period_sum};
 ghost use Rattle.book_core.specs.declared.account.Reach.TheVariants.{Own};
+ghost use Rattle.book_core.specs.Account.{reaches};
 ghost use Rattle.book_core.specs.Balance.{moved};
 ghost use Rattle.book_core.specs.DayRows.{AreSums};
 ghost use Rattle.book_core.specs.GoodBook.{most_entries, most_turnover};
 ghost use Rattle.book_core.specs.OwnLegs.{singles, AreOwnOf};
 
-use crate::account::Reach;
-use crate::day_rows::{open_legs, raise_legs};
+use crate::day_rows::{RowsOf, open_legs, raise_legs};
 use crate::entry::Entry;
 use crate::leg::Leg;
 use day_sums::{DaySums, Period};
@@ -39,16 +39,16 @@ fn add_leg(rows: &mut DaySums, legs: &[Leg], day: Day, at: usize) -> Result<(), 
     requires low { at < length legs.now }
     requires few { length legs.now ≤ most_entries }
     requires room { (u : Commodity) → moved u legs.now ≤ most_turnover }
-    requires sums { AreSums Own rows.old (singles day (take at legs.now)) }
-    ensures sums { OnOk result (AreSums Own rows.new (singles day (take (at + 1) legs.now))) }
+    requires sums { AreSums (reaches Own) rows.old (singles day (take at legs.now)) }
+    ensures sums { OnOk result (AreSums (reaches Own) rows.new (singles day (take (at + 1) legs.now))) }
     ensures memory { IsOkUnless result Cause.OutOfMemory }
 {
     let leg = &legs[at..at + 1];
     let number = (at + 1) as u32;
-    if open_legs(rows, Reach::Own, leg, day, number).is_err() {
+    if open_legs(rows, RowsOf::Each, leg, day, number).is_err() {
         return Err(Cause::OutOfMemory);
     }
-    raise_legs(rows, Reach::Own, leg, day, number);
+    raise_legs(rows, RowsOf::Each, leg, day, number);
     Ok(())
 }
 

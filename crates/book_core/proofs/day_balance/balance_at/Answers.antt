@@ -3,31 +3,31 @@ use Rattle.std.proofs.Common.{FitsSigned}
 use Rattle.std.proofs.lemmas.Int.{ints}
 use Rattle.day_sums.specs.declared.period.Period.{Period}
 use Rattle.day_sums.specs.declared.period.Period.TheVariants.{Before, Within}
-use Rattle.day_sums.specs.Period.{is_in}
-use Rattle.day_sums.specs.Sums.{period_sum}
 use Rattle.book_core.specs.declared.place.Until.{Until}
 use Rattle.book_core.specs.declared.place.Until.TheVariants.{At}
+use Rattle.book_core.specs.Account.{reaches}
 use Rattle.book_core.specs.Book.{posted}
 use Rattle.book_core.specs.Balance.{balance, counts, total}
 use Rattle.book_core.specs.Query.{balance_for}
 use Rattle.book_core.specs.DayRows.{counts_in}
 use Rattle.book_core.specs.DayPlace.{is_own}
 use Rattle.book_core.specs.GoodBook.{most_turnover}
-use Rattle.book_core.proofs.SumLemmas.{Within as IsWithin, within_meant}
+use Rattle.book_core.proofs.DayLemmas.{within_counted}
+use Rattle.book_core.proofs.SumLemmas.{Within as IsWithin}
 use Rattle.book_core.proofs.BalanceLemmas.{small_within}
 use Rattle.book_core.proofs.DayPlaceLemmas.{balance_place}
 use Rattle.book_core.proofs.day_balance.balance_at.Goals as goal
 
 -- what the book has over a period
 over : (c : goal.After-own_share-own) → Period → ℤ
-over c p = total (counts_in c.args.query.now.reach c.args.query.now.account.now c.args.query.now.unit p)
+over c p = total (counts_in (reaches c.args.query.now.reach c.args.query.now.account.now) c.args.query.now.unit p)
     (posted c.args.entries.now)
 
 over_within : (c : goal.After-own_share-own) (p : Period) → IsWithin most_turnover (over c p)
 unfolding over
 over_within c p =
-    let w = within_meant c.args.query.now.reach c.args.query.now.account.now c.args.query.now.unit
-    (λ x. is_in p x.place.day x.place.entry) 1 c.args.entries.now in
+    let w = within_counted (reaches c.args.query.now.reach c.args.query.now.account.now) c.args.query.now.unit p
+    c.args.entries.now in
     let l = w.low in
     let h = w.high in
     let r = c.requires.room c.args.query.now.unit in
@@ -40,21 +40,12 @@ earlier c = c.min-earlier.ensures ∙ ap (λ (n : ℕ). min n (length c.args.ent
 
 before : (c : goal.After-own_share-own) → c.sum-before.result ≡ over c (Before c.args.place.day)
 unfolding over
-before c =
-    c.sum-before.ensures ∙ ap (λ (a : List ℕ). period_sum c.args.rows.now a c.args.query.now.unit
-    (Before c.args.place.day))
-    c.as_bytes-account.ensures.value ∙ c.requires.sums c.args.query.now.account.now c.args.query.now.unit
-    (Before c.args.place.day)
+before c = c.sum-before.ensures
 
 on_day : (c : goal.After-own_share-own)
     → c.sum-on_day.result ≡ over c (Within c.args.place.day (min (c.args.place.entry - 1) (length c.args.entries.now)))
 unfolding over
-on_day c =
-    c.sum-on_day.ensures ∙ ap (λ (a : List ℕ).
-    period_sum c.args.rows.now a c.args.query.now.unit (Within c.args.place.day c.min-earlier.result))
-    c.as_bytes-account.ensures.value ∙ c.requires.sums c.args.query.now.account.now c.args.query.now.unit
-    (Within c.args.place.day c.min-earlier.result)
-    ∙ ap (λ (n : ℕ). over c (Within c.args.place.day n)) (earlier c)
+on_day c = c.sum-on_day.ensures ∙ ap (λ (n : ℕ). over c (Within c.args.place.day n)) (earlier c)
 
 -- the three parts are the balance
 parts : (c : goal.After-own_share-own)

@@ -1,4 +1,4 @@
-use Rattle.std.proofs.Common.{List, arith, sym, subst}
+use Rattle.std.proofs.Common.{List, [], refl, arith, sym, subst}
 use Rattle.std.specs.List.{AllByRecursion}
 use Rattle.book_core.specs.declared.entry.Entry.{Entry}
 use Rattle.book_core.specs.Claim.{asserted_from}
@@ -11,7 +11,7 @@ use Rattle.book_core.proofs.day_ledger.DayLedgerLedger.empty.Goals as goal
 pub invariant_of-result : goal.invariant_of-result
 invariant_of-result c = (
   record {
-    kept = kept_none c.new.result.items c.new-2.result.items c.new.ensures.items c.new-2.ensures.items;
+    within = (kept_none c.new.result.items [] c.new.ensures.items refl).within;
     fit = subst (AllByRecursion IsFit) (sym c.new.ensures.items) tt;
     found = subst (λ (es : List Entry). FindsEach c.empty.result (asserted_from 1 es)) (sym c.new.ensures.items)
         (λ x h. absurd (omega (arith, h.1)));
