@@ -39,7 +39,8 @@ total-counts_in on u p day n k legs = by_period (is_in p day n) refl
         → total (counts_in on u p) (posted_legs day n k xs) ≡ sum_where on u xs
     within e k [] = refl
     within e k (x ∷ xs) = rw (within e (k + 1) xs)
-        (ap (λ (t : Bool). (if t then x.qty else pos 0) +ℤ sum_where on u xs) (and_in (nat_eq x.unit.0 u.0 && on x.account)))
+        (ap (λ (t : Bool). (if t then x.qty else pos 0) +ℤ sum_where on u xs) (and_in
+        (nat_eq x.unit.0 u.0 && on x.account)))
       where
         and_in : (t : Bool) → (t && is_in p day n) ≡ t
         and_in true = e
@@ -88,7 +89,8 @@ pub sums_add : (takes : Takes) (old now : DaySums) (b : List Entry) (e : Entry) 
     → AreSums takes old b → legs ≡ e.legs → n ≡ length b + 1 → AreRaised takes legs e.day n old now
     → AreSums takes now (b ++ e ∷ [])
 sums_add takes old now b e legs n sums f g raised a u p =
-    raised.sums a u p ∙ ap (λ (z : ℤ). z +ℤ (if is_in p e.day n then sum_where (takes a) u legs else pos 0)) (sums a u p)
+    raised.sums a u p ∙ ap (λ (z : ℤ). z +ℤ (if is_in p e.day n then sum_where (takes a) u legs else pos 0))
+    (sums a u p)
     ∙ ap (λ (z : ℤ). total test (posted b) +ℤ z)
     (ap (λ (ls : List Leg). if is_in p e.day n then sum_where (takes a) u ls else pos 0) f ∙ sym
     (total-counts_in (takes a) u p e.day n 1 e.legs) ∙ ap (λ (m : ℕ). total test (posted_legs e.day m 1 e.legs)) g ∙

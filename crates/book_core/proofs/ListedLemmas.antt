@@ -211,7 +211,8 @@ pub added_more : (takes : Takes) (numbers : List ℕ) (k d i : ℕ) (b : List En
     → AreRaised takes legs x.day (1 + i) mid now → AreAdded takes (take (k + 1) numbers) b old now
 added_more takes numbers k d i b x legs old mid now l sorted at s e g h raised a u p =
     let test : Posted → Bool = counts_in (takes a) u p in
-    let fresh = subst (λ (j : ℕ). list_any (nat_eq j) (take k numbers) ≡ false) at (fresh_number numbers k d sorted l) in
+    let fresh = subst (λ (j : ℕ). list_any (nat_eq j) (take k numbers) ≡ false) at
+    (fresh_number numbers k d sorted l) in
     let more = listed_more test 1 i (take k numbers) b x s e fresh in
     let list : take (k + 1) numbers ≡ take k numbers ++ (1 + i) ∷ [] =
     take_more numbers k d l ∙ ap (λ (j : ℕ). take k numbers ++ j ∷ []) at in

@@ -70,22 +70,29 @@ one_more day legs i d l =
 
 pub room_more : (day : Day) (rows : DaySums) (legs seen : List Leg) (i : ℕ) (d : Leg) → i < length legs
     → length legs ≤ most_entries → ((u : Commodity) → moved u legs ≤ most_turnover)
-    → seen ≡ get_or legs i d ∷ [] → AreSums (reaches Own) rows (singles day (take i legs)) → HasRoomFor (reaches Own) rows seen
+    → seen ≡ get_or legs i d ∷ [] → AreSums (reaches Own) rows (singles day (take i legs))
+    → HasRoomFor (reaches Own) rows seen
 room_more day rows legs seen i d l few room is sums =
-    room_for (reaches Own) rows (singles day (take i legs)) (record { day = day; legs = get_or legs i d ∷ []; claims = [] }) seen
+    room_for (reaches Own) rows (singles day (take i legs)) (record {
+      day = day;
+      legs = get_or legs i d ∷ [];
+      claims = [];
+    }) seen
     sums (subst IsWithin (one_more day legs i d l)
     (within_left (singles day (take (i + 1) legs)) (singles day (drop (i + 1) legs))
     (subst IsWithin (ap (singles day) (sym (take-append-drop (i + 1) legs)) ∙ singles-append day (take (i + 1) legs)
     (drop (i + 1) legs)) (within_singles day legs few room)))) is
 
 pub sums_more : (day : Day) (old opened now : DaySums) (legs seen : List Leg) (i n : ℕ) (d : Leg) → i < length legs
-    → n ≡ i + 1 → seen ≡ get_or legs i d ∷ [] → AreSums (reaches Own) old (singles day (take i legs)) → SameSums old opened
+    → n ≡ i + 1 → seen ≡ get_or legs i d ∷ [] → AreSums (reaches Own) old (singles day (take i legs))
+    → SameSums old opened
     → AreRaised (reaches Own) seen day n opened now → AreSums (reaches Own) now (singles day (take (i + 1) legs))
 sums_more day old opened now legs seen i n d l g is sums same raised =
     subst (AreSums (reaches Own) now) (sym (one_more day legs i d l))
     (sums_add (reaches Own) opened now (singles day (take i legs))
     (record { day = day; legs = get_or legs i d ∷ []; claims = [] })
-    seen n (sums_same (reaches Own) old opened (singles day (take i legs)) sums same) is (g ∙ ap (λ (k : ℕ). k + 1) count) raised)
+    seen n (sums_same (reaches Own) old opened (singles day (take i legs)) sums same) is (g
+    ∙ ap (λ (k : ℕ). k + 1) count) raised)
   where
     count : i ≡ length (singles day (take i legs))
     count = omega (arith, length-singles day (take i legs), length-take-le i legs (omega arith))

@@ -22,7 +22,8 @@ use Rattle.book_core.specs.declared.account.Reach.TheVariants.{Own}
 use Rattle.book_core.specs.Account.{reaches, is_inside, colon}
 use Rattle.book_core.specs.Balance.{moved}
 use Rattle.book_core.specs.GoodBook.{most_turnover}
-use Rattle.book_core.specs.DayRows.{Takes, is_listed_name, takes_listed, takes_below, sum_where, FrontsOpen, IsOpen, AreOpen}
+use Rattle.book_core.specs.DayRows.{Takes, is_listed_name, takes_listed, takes_below, sum_where, FrontsOpen, IsOpen}
+use Rattle.book_core.specs.DayRows.{AreOpen}
 use Rattle.book_core.specs.DayRows.{Raised, AreRaised, HasRoomFor}
 
 -- ---- the same sums, step by step
@@ -49,7 +50,8 @@ pub fronts_colon : (names : List (List ℕ)) (rows : DaySums) (name : List ℕ) 
     → FrontsOpen names rows name unit day n i → FrontsOpen names rows name unit day n (i + 1)
 fronts_colon names rows name unit day n i h k j l e = by_place (cases_lt j i)
   where
-    by_place : (j < i) ⊎ (i ≤ j) → is_listed_name names (take j name) ≡ true → is_open rows (take j name) unit day n ≡ true
+    by_place : (j < i) ⊎ (i ≤ j) → is_listed_name names (take j name) ≡ true
+        → is_open rows (take j name) unit day n ≡ true
     by_place (inl m) = k j m e
     by_place (inr m) = let same : j ≡ i = omega arith in subst (λ (m : ℕ). is_listed_name names (take m name) ≡ true
         → is_open rows (take m name) unit day n ≡ true) (sym same) h
@@ -59,7 +61,8 @@ pub fronts_other : (names : List (List ℕ)) (rows : DaySums) (name : List ℕ) 
     → FrontsOpen names rows name unit day n (i + 1)
 fronts_other names rows name unit day n i h k j l e = by_place (cases_lt j i)
   where
-    by_place : (j < i) ⊎ (i ≤ j) → is_listed_name names (take j name) ≡ true → is_open rows (take j name) unit day n ≡ true
+    by_place : (j < i) ⊎ (i ≤ j) → is_listed_name names (take j name) ≡ true
+        → is_open rows (take j name) unit day n ≡ true
     by_place (inl m) = k j m e
     by_place (inr m) = let same : j ≡ i = omega arith in absurd (h (ap (λ (m : ℕ). get_or name m 0) (sym same) ∙ e))
 
@@ -271,7 +274,8 @@ pub raised_none : (names : List (List ℕ)) (name : List ℕ) (unit : Commodity)
 raised_none names name unit day n q rows = record {
   sums = λ a u p. let l : nat_lt (length a) 0 ≡ false = grind (arith, nat_tests) in
       sym (part_none (nat_eq unit.0 u.0) (is_listed_name names a && is_front 0 name a) (is_in p day n) q
-      (period_sum rows a u p) (ap (λ (t : Bool). is_listed_name names a && (t && starts_with nat_eq name (a ++ colon ∷ []))) l
+      (period_sum rows a u p) (ap (λ (t : Bool). is_listed_name names a && (t && starts_with nat_eq name
+      (a ++ colon ∷ []))) l
       ∙ and_none (is_listed_name names a)));
   opened = λ a u d k h. h;
 }
@@ -286,7 +290,8 @@ raised_colon names name unit day n q i old mid now h e k m = record {
       m.sums a u p ∙ ap (λ (z : ℤ). z +ℤ part (nat_eq unit.0 u.0) (takes_listed names a (take i name))
       (is_in p day n) q) (k.sums a u p) ∙ two_parts (nat_eq unit.0 u.0) (is_listed_name names a) (is_front i name a)
       (bytes_eq (take i name) a) (is_in p day n) q (period_sum old a u p) (front_colon name a i h e).1
-      ∙ ap (λ (t : Bool). period_sum old a u p +ℤ part (nat_eq unit.0 u.0) (is_listed_name names a && t) (is_in p day n) q)
+      ∙ ap (λ (t : Bool). period_sum old a u p +ℤ part (nat_eq unit.0 u.0) (is_listed_name names a && t)
+      (is_in p day n) q)
       (sym (front_colon name a i h e).0);
   opened = λ a u d j g. m.opened a u d j (k.opened a u d j g);
 }
@@ -296,7 +301,8 @@ pub raised_other : (names : List (List ℕ)) (name : List ℕ) (unit : Commodity
     → RaisedFronts names name unit day n q (i + 1) old now
 raised_other names name unit day n q i old now h k = record {
   sums = λ a u p. k.sums a u p
-      ∙ ap (λ (t : Bool). period_sum old a u p +ℤ part (nat_eq unit.0 u.0) (is_listed_name names a && t) (is_in p day n) q)
+      ∙ ap (λ (t : Bool). period_sum old a u p +ℤ part (nat_eq unit.0 u.0) (is_listed_name names a && t)
+      (is_in p day n) q)
       (sym (front_other name a i h));
   opened = k.opened;
 }
@@ -309,7 +315,8 @@ raised_all names name unit day n q i old mid now h k m = record {
       m.sums a u p ∙ ap (λ (z : ℤ). z +ℤ part (nat_eq unit.0 u.0) (takes_listed names a name) (is_in p day n) q)
       (k.sums a u p) ∙ two_parts (nat_eq unit.0 u.0) (is_listed_name names a) (is_front i name a) (bytes_eq name a)
       (is_in p day n) q (period_sum old a u p) (front_all name a i h).1
-      ∙ ap (λ (t : Bool). period_sum old a u p +ℤ part (nat_eq unit.0 u.0) (is_listed_name names a && t) (is_in p day n) q)
+      ∙ ap (λ (t : Bool). period_sum old a u p +ℤ part (nat_eq unit.0 u.0) (is_listed_name names a && t)
+      (is_in p day n) q)
       (sym (front_all name a i h).0);
   opened = λ a u d j g. m.opened a u d j (k.opened a u d j g);
 }
@@ -469,7 +476,8 @@ listed_raised names name unit day n q old now t h = record {
     same a = by_test (bytes_eq name a) refl
       where
         by_test : (b : Bool) → bytes_eq name a ≡ b → (is_listed_name names a && b) ≡ b
-        by_test true e = rw (subst (λ (x : List ℕ). is_listed_name names x ≡ true) ((bytes_eq-Decides name a).0 e) t) refl
+        by_test true e = rw (subst (λ (x : List ℕ). is_listed_name names x ≡ true)
+            ((bytes_eq-Decides name a).0 e) t) refl
         by_test false e = and_none (is_listed_name names a)
 
 pub unlisted_raised : (names : List (List ℕ)) (name : List ℕ) (unit : Commodity) (day : Day) (n : ℕ) (q : ℤ)

@@ -1,5 +1,6 @@
 -- what a ledger keeps beside its entries, once room is made or an account is watched
-use Rattle.std.proofs.Common.{◌≡◌, ℕ, ◌+◌, ◌<◌, ◌≤◌, Bool, true, false, ◌&&◌, ◌||◌, List, [], ◌∷◌, ◌++◌, length, get_or, arith}
+use Rattle.std.proofs.Common.{◌≡◌, ℕ, ◌+◌, ◌<◌, ◌≤◌, Bool, true, false, ◌&&◌, ◌||◌, List, [], ◌∷◌, ◌++◌, length}
+use Rattle.std.proofs.Common.{get_or, arith}
 use Rattle.std.proofs.Common.{zero, suc, refl, ap, ◌∙◌, sym, subst, nat_eq, ℤ, pos, ◌+ℤ◌, ◌⊎◌, inl, inr}
 use Rattle.std.specs.Prelude.{◌↔◌, Contains}
 use Rattle.std.specs.List.{list_any}
@@ -160,7 +161,8 @@ watched_more watched more account old new b sums absent put added a u p =
     added a u p
     ∙ ap (λ (z : ℤ). z +ℤ total (counts_in (takes_below (account ∷ []) a) u p) (posted b)) (sums a u p)
     ∙ total_or (takes_below watched a) (takes_below (account ∷ []) a) (takes_below more a) u p (posted b)
-    (λ name. and_or (is_listed_name watched a) (is_listed_name (account ∷ []) a) (is_listed_name more a) (is_inside a name) listed)
+    (λ name. and_or (is_listed_name watched a) (is_listed_name (account ∷ []) a) (is_listed_name more a)
+    (is_inside a name) listed)
     (λ name t. apart name (is_listed_name watched a) refl t)
   where
     and_or : (s t v i : Bool) → v ≡ (s || t) → (v && i) ≡ ((s && i) || (t && i))
@@ -188,18 +190,21 @@ watched_more watched more account old new b sums absent put added a u p =
     listed : is_listed_name more a ≡ (is_listed_name watched a || is_listed_name (account ∷ []) a)
     listed = by_test (is_listed_name more a) refl
       where
-        by_test : (v : Bool) → is_listed_name more a ≡ v → v ≡ (is_listed_name watched a || is_listed_name (account ∷ []) a)
+        by_test : (v : Bool) → is_listed_name more a ≡ v → v ≡ (is_listed_name watched a || is_listed_name
+            (account ∷ []) a)
         by_test true e = sym (forth ((put a).0 (in_among more a e)))
         by_test false e = by_or (is_listed_name watched a || is_listed_name (account ∷ []) a) refl
           where
             by_or : (s : Bool) → (is_listed_name watched a || is_listed_name (account ∷ []) a) ≡ s → false ≡ s
-            by_or true f = absurd (let g = back (is_listed_name watched a) (is_listed_name (account ∷ []) a) refl refl f in cc)
+            by_or true f = absurd (let g = back (is_listed_name watched a) (is_listed_name
+                (account ∷ []) a) refl refl f in cc)
             by_or false f = refl
 
     apart : (name : List ℕ) (s : Bool) → is_listed_name watched a ≡ s → takes_below (account ∷ []) a name ≡ true
         → (s && is_inside a name) ≡ false
     apart name true e t = absurd (absent (subst (Contains watched)
-        (one_among account a (and_parts (is_listed_name (account ∷ []) a) (is_inside a name) t).0) (in_among watched a e)))
+        (one_among account a (and_parts (is_listed_name (account ∷ []) a) (is_inside a name) t).0)
+        (in_among watched a e)))
     apart name false e t = refl
 
 -- the ledger's sums once the account is watched
@@ -218,10 +223,12 @@ watch_done old b new account one reserved copy numbers h is kept same absent lis
       own = subst (λ (rows : DaySums). AreSums (reaches Own) rows b) (sym own) h.own;
       ascending = sorted;
       inside = watched_more old.watched.items new.watched.items account old.inside new.inside b h.inside absent
-          (subst (λ (c : List ℕ). (x : List ℕ) → Contains new.watched.items x ↔ (Contains old.watched.items x ⊎ (x ≡ c)))
+          (subst (λ (c : List ℕ). (x : List ℕ) → Contains new.watched.items x ↔ (Contains old.watched.items x ⊎
+          (x ≡ c)))
           same (subst (λ (ns : List (List ℕ)). (x : List ℕ)
           → Contains new.watched.items x ↔ (Contains ns x ⊎ (x ≡ copy))) kept put))
-          (λ a u p. subst (λ (ns : List (List ℕ)). AreAdded (takes_below ns) numbers b old.inside new.inside) is added a u p
+          (λ a u p. subst (λ (ns : List (List ℕ)). AreAdded (takes_below ns) numbers b old.inside new.inside) is
+          added a u p
           ∙ ap (λ (z : ℤ). period_sum old.inside a u p +ℤ z)
           (listed_inside account old.accounts.items numbers old.legs b h.accounts h.legs listed a u p));
       moved = subst (λ (t : List ℕ). AreMoved t b) (sym moved) h.moved;

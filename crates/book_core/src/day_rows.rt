@@ -6,7 +6,8 @@ ghost use Rattle.std.specs.List.Sorted.{IsStrictlySortedBy};
 ghost use Rattle.day_sums.specs.declared.period.Period.{Period as Span};
 ghost use Rattle.day_sums.specs.Sums.{SameSums, IsSmall, period_sum, is_open};
 ghost use Rattle.book_core.specs.Account.{name_cmp};
-ghost use Rattle.book_core.specs.DayRows.{is_listed_name, takes_listed, takes_below, takes_of, AreInOrder, IsOpen, AreOpen};
+ghost use Rattle.book_core.specs.DayRows.{is_listed_name, takes_listed, takes_below, takes_of, AreInOrder, IsOpen};
+ghost use Rattle.book_core.specs.DayRows.{AreOpen};
 ghost use Rattle.book_core.specs.DayRows.{Raised, AreRaised, HasRoomFor};
 
 use crate::account_list::has_account;

@@ -31,5 +31,6 @@ returns-clause-all c = λ n h.
     let seen = take_all c.loop-spot.spot-index c.spots_behind-spot-items.result.now c.loop-spot-test.false in
     c.loop-spot.invariant.all (entry_spot n)
     (subst (λ (ss : List Spot). Contains ss (entry_spot n)) (sym (seen ∙ c.spots_behind-spot-items.ensures))
-    (noted_behind c.args.index.now c.args.account.now c.in-Some.row n (record { 0 = negsuc 0 }) c.row_of.result c.row_of.ensures c.in-Some.is
+    (noted_behind c.args.index.now c.args.account.now c.in-Some.row n
+    (record { 0 = negsuc 0 }) c.row_of.result c.row_of.ensures c.in-Some.is
     refl h))
