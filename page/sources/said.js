@@ -116,12 +116,12 @@ const SAID = [
     "{} ist keine Marke: eine Marke ist ein eigener Kommentar, der mit bookid: beginnt"],
   ["{} is no mark here: a mark stands above the postings of its transaction",
     "{} ist hier keine Marke: eine Marke steht über den Posten ihrer Buchung"],
-  ["{} is no mark: what follows bookid: is 1 to 100 letters a to z, digits or -._:",
+  ["{} is no mark: what follows bookid: must be 1 to 100 ASCII letters, digits or -._:",
     "{} ist keine Marke: hinter bookid: stehen 1 bis 100 Buchstaben ohne Umlaute, Ziffern oder -._:"],
-  ["{} has no transaction", "{} hat keine Buchung"],
+  ["{}: there is no transaction in it", "{}: darin ist keine Buchung"],
   ["transfer {} has the same branches, day and amount", "{} hat dieselben Zweige, denselben Tag und Betrag"],
-  ["no entry of {} is on {} or below it", "keine Buchung von {} steht auf {} oder darunter"],
-  ["no entry of {} has the tag {}", "keine Buchung von {} hat das Schlagwort {}"],
+  ["no entry of {} is on '{}' or below it", "keine Buchung von {} steht auf '{}' oder darunter"],
+  ["no entry of {} has the tag '{}'", "keine Buchung von {} hat das Schlagwort '{}'"],
   ["no entry of {} from {} through {} asserts a balance", "keine Buchung von {} vom {} bis {} prüft einen Saldo"],
   ["no entry of {} through {} asserts a balance", "keine Buchung von {} bis {} prüft einen Saldo"],
   ["revenues and expenses of {} are not zero through {}; after this lock, Close in {} at {} closes them",
@@ -169,10 +169,10 @@ const SAID = [
   ["a date is written 2024-12-31, 2024/12/31 or 2024.12.31, with four digits of the year",
     "ein Datum wird 2024-12-31, 2024/12/31 oder 2024.12.31 geschrieben, mit vier Ziffern für das Jahr"],
   ["amounts are written: {}", "Beträge werden so geschrieben: {}"],
-  ["an account is one or more names joined by single colons, at most 200 bytes in all, with no `;`, no tab, no two "
-    + "spaces in a row, and no space at either end",
-    "ein Konto besteht aus Namen mit je einem Doppelpunkt dazwischen, höchstens 200 Bytes, ohne `;`, Tabulator, zwei "
-    + "Leerzeichen hintereinander oder Leerzeichen am Rand"],
+  ["an account is one or more names joined by single colons, at most 200 bytes in all, with no `;`, control character, "
+    + "double space or space at either end; it does not begin with `*`, `!`, `(` or `[`",
+    "ein Konto besteht aus Namen mit je einem Doppelpunkt dazwischen, höchstens 200 Bytes, ohne `;`, Steuerzeichen, "
+    + "zwei Leerzeichen hintereinander oder Leerzeichen am Rand; es beginnt nicht mit `*`, `!`, `(` oder `[`"],
   ["a journal has plain transactions; for the file of a bank there is the view Bank file",
     "ein Journal hat einfache Buchungen; für die Datei einer Bank gibt es die Ansicht Bankdatei"],
   ["the file begins with a byte order mark: save it as UTF-8 without one",

@@ -123,7 +123,7 @@ fn why(comment: &[u8]) -> &'static [u8] {
     } else if is_mark(trim_start(&comment[7..])) {
         b" is no mark here: a mark stands above the postings of its transaction"
     } else {
-        b" is no mark: what follows bookid: is 1 to 100 letters a to z, digits or -._:"
+        b" is no mark: what follows bookid: must be 1 to 100 ASCII letters, digits or -._:"
     }
 }
 
@@ -175,6 +175,6 @@ pub fn say_nothing(source: &str, text: &[u8], out: &mut Messages) -> Done
         return Ok(());
     }
     let name = Piece::Text(source.as_bytes());
-    let pieces = [name, Words(b" has no transaction")];
+    let pieces = [name, Words(b": there is no transaction in it")];
     say(MessageKind::NothingImported, &pieces, out)
 }

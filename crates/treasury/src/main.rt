@@ -61,8 +61,8 @@ fn add_place(rt: &HostRuntime, words: &mut Vec<String>) -> io::Result<()> {
     };
     if let Some(subcommand) = words.get(1) {
         if takes_place(subcommand, option) {
-            words.insert(2, value)?;
-            words.insert(2, String::from_str(rt.alloc(), option)?)?;
+            // In one word, as the value may begin with a hyphen.
+            words.insert(2, format!(in rt.alloc(); "{option}={value}")?)?;
         }
     }
     Ok(())

@@ -142,10 +142,20 @@ fn look_at(rt: &HostRuntime, path: &str) -> Result<Look, Unopened> {
     look_beside(rt, path, found.len())
 }
 
+/// Whether the name has a folder that is not there.
+fn lacks_folder(rt: &HostRuntime, path: &str) -> bool {
+    match path.rsplit_once('/') {
+        Some((folder, _)) => !folder.is_empty() && fs::metadata(rt, folder).is_err(),
+        None => false,
+    }
+}
+
 /// Why there is no database, where there is no file or an empty one.
 fn why_absent(rt: &HostRuntime, path: &str) -> &'static str {
     if has_log(rt, path) {
         "there is no database, though its log is there"
+    } else if lacks_folder(rt, path) {
+        "there is no database, and its folder is not there"
     } else {
         "there is no database; treasury init makes one"
     }

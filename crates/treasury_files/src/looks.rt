@@ -139,7 +139,7 @@ pub fn why_unused(rt: &HostRuntime, path: &str) -> Option<&'static [u8]> {
         Err(error) => {
             return match error.kind() {
                 ErrorKind::NotFound => Some(
-                    b"its folder is not there, or this user may not write to it",
+                    b"its folder is not there or mounted read-only, or this user may not write to it",
                 ),
                 _ => reason_of(error),
             };

@@ -36,9 +36,10 @@ is_left_open b day units account = is_revenue_or_expense account && has_balance 
 unfoldable pub is_year_open : List Style → List Entry → Day → Bool
 is_year_open styles b day = list_any (is_left_open b day (declared_commodities styles)) (book_accounts b)
 
--- of a lock of a branch with that book through the day: the branch can still be closed at the day after
+-- of a lock of a branch with that book through the day: the branch can still be closed at the day after, if there is
+-- one
 abbrev pub open_year_said : List Style → List Entry → List ℕ → Day → List Said
 open_year_said styles b branch day =
-    if is_end_of_year day && is_year_open styles b day
+    if is_end_of_year day && is_in_calendar (day_after day) && is_year_open styles b day
     then says is.OpenYear (branch ∷ shown_day day ∷ branch ∷ shown_day (day_after day) ∷ []) ∷ []
     else []

@@ -35,6 +35,14 @@ fn day_after(day: Day) -> Day
     Day(day.0 + 1)
 }
 
+/// Whether the calendar has it.
+fn has_day_after(day: Day) -> bool
+    requires { is_in_calendar day ≡ true }
+    ensures { result ≡ is_in_calendar (day_after day) }
+{
+    is_day_number(day_after(day))
+}
+
 /// Whether the account has a balance through the day that is not zero, in one of the commodities.
 fn has_balance<L: Ledger>(ledger: &L, styles: &Styles, account: &str, day: Day) -> bool
     ensures { result ≡ has_balance (L.book ledger.now) day (declared_commodities styles.now) account.now }
@@ -81,7 +89,7 @@ pub(crate) fn say_open_year<L: Ledger>(
         ≡ out.old.items ++ open_year_said styles.now (L.book ledger.now) branch.now day) }
 {
     let is_end = is_end_of_year(alloc, day)?;
-    if is_end && is_open(ledger, styles, day) {
+    if is_end && has_day_after(day) && is_open(ledger, styles, day) {
         let pieces = [
             Words(b"revenues and expenses of "),
             Piece::Text(branch.as_bytes()),

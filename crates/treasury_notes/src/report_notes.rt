@@ -43,8 +43,8 @@ fn say_no_account<'a, L: Ledger>(
     }
     let name = branch.name.as_str().as_bytes();
     let mut message = Message::new(*out.allocator(), MessageKind::NoSuchAccount);
-    message.add(&[Words(b"no entry of "), Piece::Text(name), Words(b" is on ")])?;
-    message.add(&[Piece::Text(account.as_bytes()), Words(b" or below it")])?;
+    message.add(&[Words(b"no entry of "), Piece::Text(name), Words(b" is on '")])?;
+    message.add(&[Piece::Text(account.as_bytes()), Words(b"' or below it")])?;
     message.say(out)
 }
 
@@ -64,7 +64,8 @@ fn say_no_tag<'a, L: Ledger>(
     }
     let name = Piece::Text(branch.name.as_str().as_bytes());
     let tag = Piece::Text(tag.as_bytes());
-    let pieces = [Words(b"no entry of "), name, Words(b" has the tag "), tag];
+    let has_not = Words(b" has the tag '");
+    let pieces = [Words(b"no entry of "), name, has_not, tag, Words(b"'")];
     say(MessageKind::NoSuchTag, &pieces, out)
 }
 

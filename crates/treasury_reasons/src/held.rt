@@ -24,7 +24,7 @@ const NAME_FORM: &[u8] =
     b"a name is a lower-case letter followed by at most 31 lower-case letters, digits or -";
 
 pub(crate) const ACCOUNT_FORM: &[u8] =
-    b"an account is one or more names joined by single colons, at most 200 bytes in all, with no `;`, no tab, no two spaces in a row, and no space at either end";
+    b"an account is one or more names joined by single colons, at most 200 bytes in all, with no `;`, control character, double space or space at either end; it does not begin with `*`, `!`, `(` or `[`";
 
 /// Said of an account on which no other entry may be.
 pub(crate) const TRANSFERS_ONLY: &[u8] = b"only transfers post there";

@@ -60,7 +60,8 @@ const YEAR: &[Page] = &[
         about: "Enters a journal's new transactions into a branch's book",
         below: r#"Examples:
   treasury import --db books.db --branch north north.journal
-  hledger -f bank.csv print -c '1,000.00 EUR' | treasury import --db books.db --branch north /dev/stdin
+  hledger -f bank.csv print -c '1,000.00 EUR' > bank.journal
+  treasury import --db books.db --branch north bank.journal
 
 A transaction that the branch has already is a repeat: it is counted and not entered again, so a journal may grow.
 One without a mark is known by its whole text: once edited, it is a new transaction.

@@ -25,9 +25,10 @@ pub struct Said {
 
 /// The line of a reason, after what it comes from.
 fn reason_line(alloc: Global, origin: &str, reason: &str) -> Result<Vec<u8>, Cause> {
+    let named = if origin.is_empty() { "''" } else { origin };
     let mut line = Vec::new(alloc);
     line.extend_from_slice(b"treasury: ")?;
-    push_shown(origin.as_bytes(), &mut line)?;
+    push_shown(named.as_bytes(), &mut line)?;
     line.extend_from_slice(b": ")?;
     line.extend_from_slice(reason.as_bytes())?;
     line.extend_from_slice(b"\n")?;
