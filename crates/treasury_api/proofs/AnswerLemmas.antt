@@ -27,20 +27,12 @@ use Rattle.treasury_requests.specs.declared.request.Request.{Request}
 use Rattle.treasury_requests.specs.declared.request.Request.TheVariants.{Branch as ForBranch, Commodity as ForCommodity}
 use Rattle.treasury_requests.specs.declared.request.Request.TheVariants.{Import as ForImport, Dispatch as ForDispatch}
 use Rattle.treasury_requests.specs.declared.request.Request.TheVariants.{Receive as ForReceive, Lock as ForLock}
-use Rattle.treasury_requests.specs.declared.request.Request.TheVariants.{Close as ForClose, Balance as ForBalance}
-use Rattle.treasury_requests.specs.declared.request.Request.TheVariants.{Register as ForRegister, Transit as ForTransit}
-use Rattle.treasury_requests.specs.declared.request.Request.TheVariants.{Journal as ForJournal}
-use Rattle.treasury_requests.specs.declared.request.Request.TheVariants.{Branches as ForBranches}
-use Rattle.treasury_requests.specs.declared.request.Request.TheVariants.{Commodities as ForCommodities}
-use Rattle.treasury_requests.specs.declared.request.Request.TheVariants.{Accounts as ForAccounts}
-use Rattle.treasury_requests.specs.declared.request.Request.TheVariants.{Transfers as ForTransfers}
+use Rattle.treasury_requests.specs.declared.request.Request.TheVariants.{Close as ForClose}
 use Rattle.http_request.specs.declared.call.Form.{Form}
 use Rattle.treasury_api.specs.declared.asking.Asked.{Asked}
 use Rattle.treasury_api.specs.declared.asking.Asked.TheVariants.{Command, DryRun, Report}
-use Rattle.treasury_api.specs.declared.report.Report.TheVariants as report
 use Rattle.treasury_api.specs.Asked.{asked_by_sample, asked_by_amount, asked_by_part, asked_by_receipt, cut_list}
 use Rattle.treasury_api.specs.Asked.{JournalAsks, RequestAsks, or_dry_run, unless_changed, SpelledAsks}
-use Rattle.treasury_api.specs.declared.report.Report.{Report as AnyReport}
 use Rattle.treasury_api.specs.Report.{report_in, has_its_branch}
 use Rattle.treasury_api.specs.Replied.{IsRepliedIn, IsAnsweredIn}
 use Rattle.treasury_api.specs.Serving.{IsReady, OrMemory}
@@ -79,14 +71,7 @@ request_asks law styles (ForClose name day accounts into) = (
       (record { branch = name; day = day; choice = record { accounts = option_map cut_list accounts; into = into } }))),
   refl,
 )
-request_asks law styles (ForBalance name day) = (Ok (Report (report.Balance name day)), refl)
-request_asks law styles (ForRegister name account tag) = (Ok (Report (report.Register name account tag)), refl)
-request_asks law styles (ForTransit day) = (Ok (Report (report.Transit day)), refl)
-request_asks law styles (ForJournal name) = (Ok (Report (report.Journal name)), refl)
-request_asks law styles ForBranches = (Ok (Report report.Branches), refl)
-request_asks law styles ForCommodities = (Ok (Report report.Commodities), refl)
-request_asks law styles (ForAccounts name) = (Ok (Report (report.Accounts name)), refl)
-request_asks law styles (ForTransfers day) = (Ok (Report (report.Transfers day)), refl)
+request_asks law styles request = (Ok (Report request), refl)
 
 pub spelled_asks : ReadsAll → (f : Federation) (request : Spelled)
     → (asked : Result Asked Refusal) × SpelledAsks f request asked
@@ -214,14 +199,7 @@ texts_stay styles (ForReceive id name day account (Some part)) refusal asks =
         let k : refusal ≡ Plain cause = cc in ap (λ (x : Refusal). is_failure (Err x)) k ∙ amount_stays cause causes
 texts_stay styles (ForLock name day) refusal asks = absurd cc
 texts_stay styles (ForClose name day accounts into) refusal asks = absurd cc
-texts_stay styles (ForBalance name day) refusal asks = absurd cc
-texts_stay styles (ForRegister name account tag) refusal asks = absurd cc
-texts_stay styles (ForTransit day) refusal asks = absurd cc
-texts_stay styles (ForJournal name) refusal asks = absurd cc
-texts_stay styles ForBranches refusal asks = absurd cc
-texts_stay styles ForCommodities refusal asks = absurd cc
-texts_stay styles (ForAccounts name) refusal asks = absurd cc
-texts_stay styles (ForTransfers day) refusal asks = absurd cc
+texts_stay styles request refusal asks = absurd cc
 
 -- nor where the branch has changed
 asked_stays : (f : Federation) (request : Spelled) (refusal : Refusal)
@@ -251,7 +229,7 @@ refused_texts law g failed new f request refusal result before written unfailed 
 
 -- its lines stand after what was written before
 pub report_replied : {S T : Type 0} {form : Form} (g : Ghosts S) (new : Treasury S) (f : Federation)
-    (report : AnyReport) (x : T)
+    (report : Request) (x : T)
     (before written : List ℕ) → IsTreasuryOf g new f → new.store.failed ≡ false
     → has_its_branch f report ≡ true → written ≡ before ++ report_in form f report
     → IsRepliedIn form g false new f (Ok (Report report)) (Ok x) before written
@@ -265,7 +243,7 @@ report_replied g new f report x before written of still there said = record {
 
 -- its branch is not there, or memory is refused
 pub report_refused : {S T : Type 0} {form : Form} (g : Ghosts S) (new : Treasury S) (f : Federation)
-    (report : AnyReport) (cause : Cause)
+    (report : Request) (cause : Cause)
     (made : Result (Unit {0}) Cause) (result : Result T Refusal) (before written : List ℕ) → made ≡ Err cause
     → result ≡ Err (Plain cause) → IsTreasuryOf g new f → new.store.failed ≡ false
     → (made ≡ Err UnknownBranch) ↔ (has_its_branch f report ≡ false) → (cause ≡ UnknownBranch) ⊎ (cause ≡ OutOfMemory)

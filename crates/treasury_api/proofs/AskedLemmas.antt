@@ -24,13 +24,7 @@ use Rattle.treasury_state.specs.Federation.{Federation}
 use Rattle.treasury_requests.specs.declared.request.Request.TheVariants.{Branch as ForBranch, Commodity as ForCommodity}
 use Rattle.treasury_requests.specs.declared.request.Request.TheVariants.{Import as ForImport, Dispatch as ForDispatch}
 use Rattle.treasury_requests.specs.declared.request.Request.TheVariants.{Receive as ForReceive, Lock as ForLock}
-use Rattle.treasury_requests.specs.declared.request.Request.TheVariants.{Close as ForClose, Balance as ForBalance}
-use Rattle.treasury_requests.specs.declared.request.Request.TheVariants.{Register as ForRegister, Transit as ForTransit}
-use Rattle.treasury_requests.specs.declared.request.Request.TheVariants.{Journal as ForJournal}
-use Rattle.treasury_requests.specs.declared.request.Request.TheVariants.{Branches as ForBranches}
-use Rattle.treasury_requests.specs.declared.request.Request.TheVariants.{Commodities as ForCommodities}
-use Rattle.treasury_requests.specs.declared.request.Request.TheVariants.{Accounts as ForAccounts}
-use Rattle.treasury_requests.specs.declared.request.Request.TheVariants.{Transfers as ForTransfers}
+use Rattle.treasury_requests.specs.declared.request.Request.TheVariants.{Close as ForClose}
 use Rattle.treasury_api.specs.declared.asking.Asked.TheVariants.{Command}
 use Rattle.treasury_requests.specs.Request.{HasDayNumbers}
 use Rattle.treasury_requests.proofs.DayLemmas.{spelled_days}
@@ -94,14 +88,7 @@ request_fits styles (ForClose name day accounts into) c days h =
     let same : c ≡ cmd.Close (record
     { branch = name; day = day; choice = record { accounts = option_map cut_list accounts; into = into } }) = cc in
     subst (Fits styles) (sym same) days
-request_fits styles (ForBalance name day) c days h = absurd cc
-request_fits styles (ForRegister name account tag) c days h = absurd cc
-request_fits styles (ForTransit day) c days h = absurd cc
-request_fits styles (ForJournal name) c days h = absurd cc
-request_fits styles ForBranches c days h = absurd cc
-request_fits styles ForCommodities c days h = absurd cc
-request_fits styles (ForAccounts name) c days h = absurd cc
-request_fits styles (ForTransfers day) c days h = absurd cc
+request_fits styles request c days h = absurd cc
 
 pub asked_fits : (failed : Bool) (f : Federation) (line : List ℕ) (c : AnyCommand)
     → Asks failed f line (Ok (Command c)) → Fits f.styles c

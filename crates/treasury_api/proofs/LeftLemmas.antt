@@ -31,13 +31,7 @@ use Rattle.treasury_requests.specs.declared.request.Request.{Request}
 use Rattle.treasury_requests.specs.declared.request.Request.TheVariants.{Branch as ForBranch, Commodity as ForCommodity}
 use Rattle.treasury_requests.specs.declared.request.Request.TheVariants.{Import as ForImport, Dispatch as ForDispatch}
 use Rattle.treasury_requests.specs.declared.request.Request.TheVariants.{Receive as ForReceive, Lock as ForLock}
-use Rattle.treasury_requests.specs.declared.request.Request.TheVariants.{Close as ForClose, Balance as ForBalance}
-use Rattle.treasury_requests.specs.declared.request.Request.TheVariants.{Register as ForRegister, Transit as ForTransit}
-use Rattle.treasury_requests.specs.declared.request.Request.TheVariants.{Journal as ForJournal}
-use Rattle.treasury_requests.specs.declared.request.Request.TheVariants.{Branches as ForBranches}
-use Rattle.treasury_requests.specs.declared.request.Request.TheVariants.{Commodities as ForCommodities}
-use Rattle.treasury_requests.specs.declared.request.Request.TheVariants.{Accounts as ForAccounts}
-use Rattle.treasury_requests.specs.declared.request.Request.TheVariants.{Transfers as ForTransfers}
+use Rattle.treasury_requests.specs.declared.request.Request.TheVariants.{Close as ForClose}
 use Rattle.treasury_api.specs.declared.asking.Asked.{Asked}
 use Rattle.treasury_api.specs.declared.asking.Asked.TheVariants.{Command}
 use Rattle.treasury_api.specs.Asked.{asked_by_sample, asked_by_amount, asked_by_part, JournalAsks, RequestAsks, AsksOf}
@@ -70,14 +64,7 @@ request_once styles (ForDispatch id from to day text account) one other a b = a 
 request_once styles (ForReceive id name day account part) one other a b = a ∙ sym b
 request_once styles (ForLock name day) one other a b = a ∙ sym b
 request_once styles (ForClose name day accounts into) one other a b = a ∙ sym b
-request_once styles (ForBalance name day) one other a b = a ∙ sym b
-request_once styles (ForRegister name account tag) one other a b = a ∙ sym b
-request_once styles (ForTransit day) one other a b = a ∙ sym b
-request_once styles (ForJournal name) one other a b = a ∙ sym b
-request_once styles ForBranches one other a b = a ∙ sym b
-request_once styles ForCommodities one other a b = a ∙ sym b
-request_once styles (ForAccounts name) one other a b = a ∙ sym b
-request_once styles (ForTransfers day) one other a b = a ∙ sym b
+request_once styles request one other a b = a ∙ sym b
 
 spelled_once : (f : Federation) (request : Spelled) (one other : Result Asked Refusal)
     → SpelledAsks f request one → SpelledAsks f request other → one ≡ other
@@ -246,14 +233,7 @@ texts_ruled styles (ForReceive id name day account (Some part)) refusal asks =
         let k : refusal ≡ Plain cause = cc in ap (λ (x : Refusal). is_by_rules x) k ∙ amount_ruled cause causes
 texts_ruled styles (ForLock name day) refusal asks = absurd cc
 texts_ruled styles (ForClose name day accounts into) refusal asks = absurd cc
-texts_ruled styles (ForBalance name day) refusal asks = absurd cc
-texts_ruled styles (ForRegister name account tag) refusal asks = absurd cc
-texts_ruled styles (ForTransit day) refusal asks = absurd cc
-texts_ruled styles (ForJournal name) refusal asks = absurd cc
-texts_ruled styles ForBranches refusal asks = absurd cc
-texts_ruled styles ForCommodities refusal asks = absurd cc
-texts_ruled styles (ForAccounts name) refusal asks = absurd cc
-texts_ruled styles (ForTransfers day) refusal asks = absurd cc
+texts_ruled styles request refusal asks = absurd cc
 
 pub ruled_texts : (f : Federation) (request : Spelled) (refusal : Refusal)
     → OrMemory (SpelledAsks f request) (Err refusal) → is_by_rules refusal ≡ true

@@ -13,7 +13,7 @@ use Rattle.json_text.specs.JsonText.{escaped, quoted, object_text, rows_text, li
 use Rattle.json_text.proofs.LengthLemmas.{length-quoted}
 use Rattle.json_text.specs.JsonText as held
 use Rattle.treasury_state.specs.Federation.{Federation}
-use Rattle.treasury_api.specs.declared.report.Report.{Report as AnyReport}
+use Rattle.treasury_requests.specs.declared.request.Request.{Request}
 use Rattle.treasury_reports.specs.Rows.{strings_of}
 use Rattle.treasury_api.specs.Report.{report_rows, report_json}
 use Rattle.treasury_messages.specs.Sentence.{sentence_of}
@@ -332,7 +332,7 @@ unfolding escaped
 report_parts rows =
     ap (λ (t : List ℕ). codes "{\"lines\":" ++ t) (nest_rows (rows_text rows) (codes "}") (codes "\n"))
 
-pub report_object : (f : Federation) (report : AnyReport) (old rows new : List ℕ)
+pub report_object : (f : Federation) (report : Request) (old rows new : List ℕ)
     → rows ≡ [] ++ rows_text (map strings_of (report_rows f report))
     → new ≡ old ++ (codes "{\"lines\":" ++ (rows ++ (codes "}\n" ++ []))) → new ≡ old ++ report_json f report
 report_object f report old rows new is said =

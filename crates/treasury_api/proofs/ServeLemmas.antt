@@ -27,17 +27,10 @@ use Rattle.treasury_requests.specs.declared.request.Request.{Request}
 use Rattle.treasury_requests.specs.declared.request.Request.TheVariants.{Branch as ForBranch, Commodity as ForCommodity}
 use Rattle.treasury_requests.specs.declared.request.Request.TheVariants.{Import as ForImport, Dispatch as ForDispatch}
 use Rattle.treasury_requests.specs.declared.request.Request.TheVariants.{Receive as ForReceive, Lock as ForLock}
-use Rattle.treasury_requests.specs.declared.request.Request.TheVariants.{Close as ForClose, Balance as ForBalance}
-use Rattle.treasury_requests.specs.declared.request.Request.TheVariants.{Register as ForRegister, Transit as ForTransit}
-use Rattle.treasury_requests.specs.declared.request.Request.TheVariants.{Journal as ForJournal}
-use Rattle.treasury_requests.specs.declared.request.Request.TheVariants.{Branches as ForBranches}
-use Rattle.treasury_requests.specs.declared.request.Request.TheVariants.{Commodities as ForCommodities}
-use Rattle.treasury_requests.specs.declared.request.Request.TheVariants.{Accounts as ForAccounts}
-use Rattle.treasury_requests.specs.declared.request.Request.TheVariants.{Transfers as ForTransfers}
+use Rattle.treasury_requests.specs.declared.request.Request.TheVariants.{Close as ForClose}
 use Rattle.http_request.specs.declared.call.Form.TheVariants as form
 use Rattle.treasury_api.specs.declared.asking.Asked.{Asked}
 use Rattle.treasury_api.specs.declared.asking.Asked.TheVariants.{Command, DryRun, Report}
-use Rattle.treasury_api.specs.declared.report.Report.{Report as AnyReport}
 use Rattle.treasury_requests.specs.Request.{spelled, is_report}
 use Rattle.treasury_api.specs.Asked.{AsksOf, Asks, RequestAsks, SpelledAsks, asked_by_sample, asked_by_amount}
 use Rattle.treasury_api.specs.Asked.{asked_by_part}
@@ -188,14 +181,6 @@ unread_line_served law g shown t line text cause read is none causes said = reco
 -- what asks for a command is no report
 command_asks : (styles : List Style) (request : Request) (c : AnyCommand) → RequestAsks styles request (Ok (Command c))
     → is_report request ≡ false
-command_asks styles (ForBalance name day) c asks = absurd cc
-command_asks styles (ForRegister name account tag) c asks = absurd cc
-command_asks styles (ForTransit day) c asks = absurd cc
-command_asks styles (ForJournal name) c asks = absurd cc
-command_asks styles ForBranches c asks = absurd cc
-command_asks styles ForCommodities c asks = absurd cc
-command_asks styles (ForAccounts name) c asks = absurd cc
-command_asks styles (ForTransfers day) c asks = absurd cc
 command_asks styles (ForBranch name) c asks = refl
 command_asks styles (ForCommodity sample) c asks = refl
 command_asks styles (ForImport name journal) c asks = refl
@@ -203,17 +188,10 @@ command_asks styles (ForDispatch id from to day text account) c asks = refl
 command_asks styles (ForReceive id name day account part) c asks = refl
 command_asks styles (ForLock name day) c asks = refl
 command_asks styles (ForClose name day accounts into) c asks = refl
+command_asks styles request c asks = absurd cc
 
 dry_run_asks : (styles : List Style) (request : Request) (c : AnyCommand) → RequestAsks styles request (Ok (DryRun c))
     → is_report request ≡ false
-dry_run_asks styles (ForBalance name day) c asks = absurd cc
-dry_run_asks styles (ForRegister name account tag) c asks = absurd cc
-dry_run_asks styles (ForTransit day) c asks = absurd cc
-dry_run_asks styles (ForJournal name) c asks = absurd cc
-dry_run_asks styles ForBranches c asks = absurd cc
-dry_run_asks styles ForCommodities c asks = absurd cc
-dry_run_asks styles (ForAccounts name) c asks = absurd cc
-dry_run_asks styles (ForTransfers day) c asks = absurd cc
 dry_run_asks styles (ForBranch name) c asks = refl
 dry_run_asks styles (ForCommodity sample) c asks = refl
 dry_run_asks styles (ForImport name journal) c asks = refl
@@ -221,6 +199,7 @@ dry_run_asks styles (ForDispatch id from to day text account) c asks = refl
 dry_run_asks styles (ForReceive id name day account part) c asks = refl
 dry_run_asks styles (ForLock name day) c asks = refl
 dry_run_asks styles (ForClose name day accounts into) c asks = refl
+dry_run_asks styles request c asks = absurd cc
 
 pub asks_report : (failed : Bool) (f : Federation) (request : Spelled) (c : AnyCommand)
     → AsksOf failed f request (Ok (Command c)) → is_report request.request ≡ false
@@ -235,21 +214,21 @@ asks_dry_run false f request c asks = elim (spelled_dry_run f request c asks) [
   | inr dry ↦ dry_run_asks f.styles request.request c dry
 ]
 
-by_sample : (o : Option Style) (report : AnyReport) (P : Type 0) → Ok (Report report) ≡ asked_by_sample o → P
+by_sample : (o : Option Style) (report : Request) (P : Type 0) → Ok (Report report) ≡ asked_by_sample o → P
 by_sample None report P e = absurd cc
 by_sample (Some style) report P e = absurd cc
 
-by_amount : (id from to account : List ℕ) (day : Day) (r : Result (Commodity × ℤ) Cause) (report : AnyReport)
+by_amount : (id from to account : List ℕ) (day : Day) (r : Result (Commodity × ℤ) Cause) (report : Request)
     (P : Type 0) → Ok (Report report) ≡ asked_by_amount id from to day account r → P
 by_amount id from to account day (Ok (unit, qty)) report P e = absurd cc
 by_amount id from to account day (Err cause) report P e = absurd cc
 
-by_part : (id name account key : List ℕ) (day : Day) (r : Result (Commodity × ℤ) Cause) (report : AnyReport)
+by_part : (id name account key : List ℕ) (day : Day) (r : Result (Commodity × ℤ) Cause) (report : Request)
     (P : Type 0) → Ok (Report report) ≡ asked_by_part id name day account key r → P
 by_part id name account key day (Ok (unit, qty)) report P e = absurd cc
 by_part id name account key day (Err cause) report P e = absurd cc
 
-pub report_asks : (styles : List Style) (request : Request) (report : AnyReport)
+pub report_asks : (styles : List Style) (request report : Request)
     → RequestAsks styles request (Ok (Report report)) → is_report request ≡ true
 report_asks styles (ForBranch name) report asks = absurd cc
 report_asks styles (ForCommodity sample) report asks = by_sample (style_of sample) report _ asks
@@ -262,23 +241,16 @@ report_asks styles (ForReceive id name day account (Some part)) report asks =
     by_part id name account part.key day (amount styles part.amount) report _ asks
 report_asks styles (ForLock name day) report asks = absurd cc
 report_asks styles (ForClose name day accounts into) report asks = absurd cc
-report_asks styles (ForBalance name day) report asks = refl
-report_asks styles (ForRegister name account tag) report asks = refl
-report_asks styles (ForTransit day) report asks = refl
-report_asks styles (ForJournal name) report asks = refl
-report_asks styles ForBranches report asks = refl
-report_asks styles ForCommodities report asks = refl
-report_asks styles (ForAccounts name) report asks = refl
-report_asks styles (ForTransfers day) report asks = refl
+report_asks styles request report asks = refl
 
-pub no_report : (failed : Bool) (f : Federation) (request : Spelled) (report : AnyReport)
+pub no_report : (failed : Bool) (f : Federation) (request : Spelled) (report : Request)
     → AsksOf failed f request (Ok (Report report)) → is_report request.request ≡ true
 no_report true f request report asks = absurd cc
 no_report false f request report asks =
     report_asks f.styles request.request report (spelled_report f request report asks)
 
 -- what is asked is a report where the request is one
-pub asked_report : (f : Federation) (request : Spelled) (asked : Asked) (report : AnyReport)
+pub asked_report : (f : Federation) (request : Spelled) (asked : Asked) (report : Request)
     → asked ≡ Report report → OrMemory (SpelledAsks f request) (Ok asked) → is_report request.request ≡ true
 asked_report f request asked report is (inl memory) = absurd cc
 asked_report f request asked report is (inr asks) =
@@ -294,7 +266,7 @@ spelled_some : (line : List ℕ) (request : Spelled) → spelled line ≡ Some r
 spelled_some line request is = subst (λ (o : Option Spelled). IsSome o) (sym is) cc
 
 -- a report whose branch is there is replied to by `ok`
-done_only : (f : Federation) (failed : Bool) (report : AnyReport) (answer : Answer)
+done_only : (f : Federation) (failed : Bool) (report : Request) (answer : Answer)
     → MayReplyAsked (record { now = f; failed = failed }) (Ok (Report report)) (Ok answer) → answer ≡ Done
 done_only f failed report answer (inl e) = by_branch (has_its_branch f report) e
   where

@@ -10,7 +10,7 @@ use Rattle.treasury_core.specs.declared.command.Command.{Command as AnyCommand}
 use Rattle.treasury_requests.specs.declared.request.Spelled.{Spelled}
 use Rattle.treasury_api.specs.declared.asking.Asked.{Asked}
 use Rattle.treasury_api.specs.declared.asking.Asked.TheVariants.{Command, DryRun, Report}
-use Rattle.treasury_api.specs.declared.report.Report.{Report as AnyReport}
+use Rattle.treasury_requests.specs.declared.request.Request.{Request}
 use Rattle.treasury_api.specs.Asked.{or_dry_run, has_changed, unless_changed, RequestAsks, SpelledAsks}
 use Rattle.treasury_api.specs.Serving.{IsReady, OrMemory}
 
@@ -93,7 +93,7 @@ pub spelled_in_earnest : (f : Federation) (request : Spelled) (c : AnyCommand) �
 spelled_in_earnest f request c (said, (asks, e)) =
     in_earnest_only request.terms.is_dry_run (unless_changed f request said) c e
 
-report_stays : (dry : Bool) (said : Result Asked Refusal) (report : AnyReport)
+report_stays : (dry : Bool) (said : Result Asked Refusal) (report : Request)
     → Ok (Report report) ≡ or_dry_run dry said → said ≡ Ok (Report report)
 report_stays false said report e = sym e
 report_stays true (Ok (Command c)) report e = absurd cc
@@ -102,7 +102,7 @@ report_stays true (Ok (Report other)) report e = sym e
 report_stays true (Err refusal) report e = absurd cc
 
 -- and so is a report
-pub spelled_report : (f : Federation) (request : Spelled) (report : AnyReport)
+pub spelled_report : (f : Federation) (request : Spelled) (report : Request)
     → SpelledAsks f request (Ok (Report report)) → RequestAsks f.styles request.request (Ok (Report report))
 spelled_report f request report (said, (asks, e)) =
     subst (RequestAsks f.styles request.request) (kept_ok f request said (Report report)

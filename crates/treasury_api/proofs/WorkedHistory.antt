@@ -13,7 +13,7 @@ use Rattle.treasury_core.specs.Step.{done}
 use Rattle.treasury_store.specs.Store.{empty_state}
 use Rattle.treasury_api.specs.declared.asking.Asked.{Asked}
 use Rattle.treasury_api.specs.declared.asking.Asked.TheVariants.{Command, Report}
-use Rattle.treasury_api.specs.declared.report.Report.TheVariants as report
+use Rattle.treasury_requests.specs.declared.request.Request.TheVariants.{Balance}
 use Rattle.treasury_api.specs.Answer.{answer_text}
 use Rattle.treasury_api.specs.Step.{at_first, reply_to, reply_text}
 use Rattle.treasury_api.specs.History.{LineTurn, standing_after, commands_of, IsRefusalOrRepeat}
@@ -24,7 +24,7 @@ abbrev turns : Day → List LineTurn
 turns day =
     record { line = codes "a"; asked = Ok (Command (cmd.Branch (codes "north"))); reply = Ok Done }
     ∷ record { line = codes "b"; asked = Err (Plain Amount); reply = Err (Plain Amount) }
-    ∷ record { line = codes "c"; asked = Ok (Report (report.Balance (codes "north") day)); reply = Ok Done }
+    ∷ record { line = codes "c"; asked = Ok (Report (Balance (codes "north") day)); reply = Ok Done }
     ∷ record {
       line = codes "d";
       asked = Ok (Command (cmd.Lock (codes "south") day));
@@ -43,7 +43,7 @@ unfolding done
 run day = (refl, refl)
 
 -- a report on a branch that is not there
-pub nowhere : (day : Day) → reply_to empty_state (Ok (Report (report.Balance (codes "north") day)))
+pub nowhere : (day : Day) → reply_to empty_state (Ok (Report (Balance (codes "north") day)))
     ≡ Err (Plain UnknownBranch)
 nowhere day = refl
 

@@ -26,12 +26,9 @@ use Rattle.treasury_requests.specs.declared.request.WrittenPart.{WrittenPart}
 use Rattle.treasury_requests.specs.declared.request.Spelled.{Spelled}
 use Rattle.treasury_requests.specs.declared.request.Request.{Request}
 use Rattle.treasury_requests.specs.declared.request.Request.TheVariants.{Branch, Commodity, Import, Dispatch}
-use Rattle.treasury_requests.specs.declared.request.Request.TheVariants.{Receive, Lock}
-use Rattle.treasury_requests.specs.declared.request.Request.TheVariants.{Close, Balance, Register, Transit, Journal}
-use Rattle.treasury_requests.specs.declared.request.Request.TheVariants.{Branches, Commodities, Accounts, Transfers}
+use Rattle.treasury_requests.specs.declared.request.Request.TheVariants.{Receive, Lock, Close}
 use Rattle.treasury_api.specs.declared.asking.Asked.{Asked}
 use Rattle.treasury_api.specs.declared.asking.Asked.TheVariants.{Command, DryRun, Report}
-use Rattle.treasury_api.specs.declared.report.Report.TheVariants as report
 use Rattle.treasury_requests.specs.Request.{spelled, branch_asked}
 
 -- a sample asks for a commodity in its style; a text that is none asks for nothing
@@ -87,14 +84,7 @@ RequestAsks styles (Lock name day) asked = asked ≡ Ok (Command (cmd.Lock name 
 RequestAsks styles (Close name day accounts into) asked =
     asked ≡ Ok (Command (cmd.Close (record
     { branch = name; day = day; choice = record { accounts = option_map cut_list accounts; into = into } })))
-RequestAsks styles (Balance name day) asked = asked ≡ Ok (Report (report.Balance name day))
-RequestAsks styles (Register name account tag) asked = asked ≡ Ok (Report (report.Register name account tag))
-RequestAsks styles (Transit day) asked = asked ≡ Ok (Report (report.Transit day))
-RequestAsks styles (Journal name) asked = asked ≡ Ok (Report (report.Journal name))
-RequestAsks styles Branches asked = asked ≡ Ok (Report report.Branches)
-RequestAsks styles Commodities asked = asked ≡ Ok (Report report.Commodities)
-RequestAsks styles (Accounts name) asked = asked ≡ Ok (Report (report.Accounts name))
-RequestAsks styles (Transfers day) asked = asked ≡ Ok (Report (report.Transfers day))
+RequestAsks styles report asked = asked ≡ Ok (Report report)
 
 -- a dry run of a command asks what it would be answered; a report, and a text that has a fault, are the same either way
 abbrev pub as_dry_run : Result Asked Refusal → Result Asked Refusal

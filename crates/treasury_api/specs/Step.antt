@@ -13,14 +13,14 @@ use Rattle.treasury_store.specs.Store.{empty_state}
 use Rattle.treasury_store.specs.Treasury.{is_failure}
 use Rattle.treasury_api.specs.declared.asking.Asked.{Asked}
 use Rattle.treasury_api.specs.declared.asking.Asked.TheVariants.{Command, DryRun, Report}
+use Rattle.treasury_requests.specs.declared.request.Request.{Request}
 use Rattle.treasury_requests.specs.Request.{spelled}
 use Rattle.treasury_api.specs.Asked.{Asks}
 use Rattle.treasury_api.specs.Answer.{answer_text}
-use Rattle.treasury_api.specs.declared.report.Report.{Report as AnyReport}
 use Rattle.treasury_api.specs.Report.{report_text, has_its_branch}
 
 -- a report, whose branch has to be there
-abbrev pub report_reply : Federation → AnyReport → Result Answer Refusal
+abbrev pub report_reply : Federation → Request → Result Answer Refusal
 report_reply f report = if not (has_its_branch f report) then Err (Plain UnknownBranch) else Ok Done
 
 -- the reply to what is asked; a dry run is replied to as its command is

@@ -1,8 +1,7 @@
 //! What a request asks, once its texts are read: a command, or a report.
 
-ghost use Rattle.std.specs.Prelude.{◌≡◌, List, Ok, IfOk, IsTrue, option_map};
+ghost use Rattle.std.specs.Prelude.{◌≡◌, Ok, IfOk, option_map};
 ghost use Rattle.std.specs.Result.{IsOkUnless};
-ghost use Rattle.money_core.specs.declared.style.Style.{Style};
 ghost use Rattle.money_core.specs.Sampling.{style_of};
 ghost use Rattle.money_core.specs.Reading.{amount};
 ghost use Rattle.journal_lines.specs.Date.{IsDayNumber};
@@ -11,7 +10,7 @@ ghost use Rattle.treasury_core.specs.Step.{reply};
 ghost use Rattle.treasury_api.specs.Asked.{asked_by_sample, asked_by_amount, asked_by_part, asked_by_receipt, cut_list};
 ghost use Rattle.treasury_api.specs.Asked.{JournalAsks, RequestAsks, SpelledAsks, or_dry_run};
 ghost use Rattle.treasury_api.specs.Asked.{entries_asked, is_another, is_change, has_changed, unless_changed};
-ghost use Rattle.treasury_requests.specs.Request.{HasDayNumbers, is_report};
+ghost use Rattle.treasury_requests.specs.Request.{HasDayNumbers};
 ghost use Rattle.treasury_api.specs.Serving.{IsReady, OrMemory};
 
 use crate::report::Report;
@@ -25,11 +24,11 @@ use treasury_state::find_branch;
 
 /// What is asked of the treasury.
 #[derive(Drop)]
-pub enum Asked {
+pub enum Asked<'a> {
     Command(Command),
     /// What the command would be answered; it is not performed.
     DryRun(Command),
-    Report(Report),
+    Report(Report<'a>),
 }
 
 /// Want of memory.
@@ -61,7 +60,7 @@ fn own_if_given(text: &Option<Text>) -> Result<Option<Text>, Refusal>
 }
 
 /// Asks for a commodity in the style that the sample spells.
-fn asked_by_sample(alloc: Global, styles: &Styles, sample: &str) -> Result<Asked, Refusal>
+fn asked_by_sample(alloc: Global, styles: &Styles, sample: &str) -> Result<Asked<'static>, Refusal>
     ensures asks { OrMemory (λ asked. asked ≡ asked_by_sample (style_of sample.now)) result }
     ensures ready { IsReady styles.now result }
 {
@@ -79,7 +78,7 @@ fn asked_by_journal(
     styles: &Styles,
     name: &Text,
     journal: &[u8],
-) -> Result<Asked, Refusal>
+) -> Result<Asked<'static>, Refusal>
     ensures asks { OrMemory (JournalAsks styles.now name.now journal.now) result }
     ensures ready { IsReady styles.now result }
 {
@@ -102,7 +101,7 @@ fn asked_by_amount(
     day: Day,
     text: &str,
     account: &Text,
-) -> Result<Asked, Refusal>
+) -> Result<Asked<'static>, Refusal>
     requires { IsDayNumber day }
     ensures asks { OrMemory (λ asked. asked ≡ asked_by_amount id.now from.now to.now day account.now
         (amount styles.now text.now)) result }
@@ -134,7 +133,7 @@ fn asked_by_part(
     day: Day,
     account: Text,
     part: &WrittenPart,
-) -> Result<Asked, Refusal>
+) -> Result<Asked<'static>, Refusal>
     requires { IsDayNumber day }
     ensures asks { OrMemory (λ asked. asked ≡ asked_by_part id branch day account part.now.key
         (amount styles.now part.now.amount)) result }
@@ -161,7 +160,7 @@ fn asked_by_receipt(
     day: Day,
     account: &Text,
     part: &Option<WrittenPart>,
-) -> Result<Asked, Refusal>
+) -> Result<Asked<'static>, Refusal>
     requires { IsDayNumber day }
     ensures asks { OrMemory (λ asked. asked ≡ asked_by_receipt styles.now id.now branch.now day account.now part.now)
         result }
@@ -226,50 +225,12 @@ fn choice_of(alloc: Global, accounts: &Option<Text>, into: &Option<Text>) -> Res
     }
 }
 
-/// Asks for the report that the request is for.
-fn asked_by_report(request: &Request) -> Result<Asked, Refusal>
-    requires { IsTrue (is_report request.now) }
-    ensures asks { (styles : List Style) → OrMemory (RequestAsks styles request.now) result }
-    ensures ready { (styles : List Style) → IsReady styles result }
-{
-    let report = match request {
-        Request::Balance { branch, day } => {
-            let branch = own(branch)?;
-            Report::Balance { branch, day: *day }
-        }
-        Request::Register {
-            branch,
-            account,
-            tag,
-        } => {
-            let branch = own(branch)?;
-            let account = own(account)?;
-            let tag = own_if_given(tag)?;
-            Report::Register {
-                branch,
-                account,
-                tag,
-            }
-        }
-        Request::Transit { day } => Report::Transit { day: *day },
-        Request::Journal { branch } => {
-            let branch = own(branch)?;
-            Report::Journal { branch }
-        }
-        Request::Branches => Report::Branches,
-        Request::Commodities => Report::Commodities,
-        Request::Accounts { branch } => {
-            let branch = own(branch)?;
-            Report::Accounts { branch }
-        }
-        Request::Transfers { day } => Report::Transfers { day: *day },
-        _ => unreachable!(),
-    };
-    Ok(Asked::Report(report))
-}
-
 /// What the request asks, if it is no dry run; or the first fault of its texts; 40 for want of memory.
-fn asked_by_request(alloc: Global, styles: &Styles, request: &Request) -> Result<Asked, Refusal>
+fn asked_by_request<'a>(
+    alloc: Global,
+    styles: &Styles,
+    request: &'a Request,
+) -> Result<Asked<'a>, Refusal>
     requires { HasDayNumbers request.now }
     ensures asks { OrMemory (RequestAsks styles.now request.now) result }
     ensures ready { IsReady styles.now result }
@@ -309,13 +270,13 @@ fn asked_by_request(alloc: Global, styles: &Styles, request: &Request) -> Result
             };
             Ok(Asked::Command(Command::Close(close)))
         }
-        _ => asked_by_report(request),
+        _ => Ok(Asked::Report(Report { request })),
     }
 }
 
 /// What is asked, or the dry run of it.
 fn or_dry_run(is_dry_run: bool, asked: Asked) -> Asked
-    ensures { Ok result ≡ or_dry_run is_dry_run (Ok asked) }
+    ensures { Ok result ≡ or_dry_run is_dry_run (Ok asked.entry) }
 {
     if !is_dry_run {
         return asked;
@@ -384,14 +345,14 @@ fn has_changed<L: Ledger>(
 }
 
 /// What is asked, where the branch has not changed since it was shown.
-fn unless_changed<L: Ledger>(
+fn unless_changed<'a, L: Ledger>(
     alloc: Global,
     state: &State<L>,
     request: &Spelled,
-    asked: Asked,
-) -> Result<Asked, Refusal>
+    asked: Asked<'a>,
+) -> Result<Asked<'a>, Refusal>
     requires { IsReady state.now.styles (Ok asked) }
-    ensures asks { OrMemory (λ kept. kept ≡ unless_changed state.now request.now (Ok asked)) result }
+    ensures asks { OrMemory (λ kept. kept ≡ unless_changed state.now request.now (Ok asked.entry)) result }
     ensures ready { IsReady state.now.styles result }
 {
     match asked {
@@ -410,11 +371,11 @@ fn unless_changed<L: Ledger>(
 /// What the request asks in this state, on its terms: a command that fits the commodities, to be performed or as a dry
 /// run, or a report. Or the first fault of its texts; 48 where its branch has changed; 40 for want of memory. Each of
 /// these refusals can be printed.
-pub fn asked_by<L: Ledger>(
+pub fn asked_by<'a, L: Ledger>(
     alloc: Global,
     state: &State<L>,
-    request: &Spelled,
-) -> Result<Asked, Refusal>
+    request: &'a Spelled,
+) -> Result<Asked<'a>, Refusal>
     requires { HasDayNumbers request.now.request }
     ensures asks { OrMemory (SpelledAsks state.now request.now) result }
     ensures ready { IsReady state.now.styles result }

@@ -11,9 +11,9 @@ ghost use Rattle.treasury_core.specs.declared.command.Command.{Command};
 ghost use Rattle.treasury_core.specs.declared.command.Command.TheVariants.{Enter};
 ghost use Rattle.treasury_core.specs.Step.{reply, step};
 ghost use Rattle.treasury_core.specs.Run.{IsRun as IsCommandRun, state_after};
+ghost use Rattle.treasury_requests.specs.declared.request.Request.{Request};
 ghost use Rattle.treasury_requests.specs.declared.request.Request.TheVariants.{Import};
 ghost use Rattle.treasury_reasons.specs.Uneven.{IsReadImport};
-ghost use Rattle.treasury_api.specs.declared.report.Report.{Report};
 ghost use Rattle.treasury_api.specs.Transcript.{IsTranscript};
 ghost use Rattle.treasury_api.specs.Step.{Standing, after_asked, Answers};
 ghost use Rattle.treasury_api.specs.History.{LineTurn, AreTurns, standing_after, IsRunOfLines, commands_of};
@@ -71,7 +71,7 @@ pub fn refusal_law()
         → Answers s line text t → IsRefusalOrRepeat text → t.now ≡ s.now }
     ensures along { (start : Standing) (input output : List ℕ) (end : Standing) (turns : List LineTurn)
         → IsRunOfLines start input output end turns → RefusedLinesLeave start turns }
-    ensures report { (f : Federation) (report : Report) (r : Result Answer Refused)
+    ensures report { (f : Federation) (report : Request) (r : Result Answer Refused)
         → after_asked f (Ok (Asked.Report report)) r ≡ f }
     ensures dry_run { (f : Federation) (command : Command) (r : Result Answer Refused)
         → after_asked f (Ok (Asked.DryRun command)) r ≡ f }

@@ -8,49 +8,32 @@ use crate::answers::push_pieces;
 use crate::laws::lists_law;
 use book_core::Ledger;
 use http_request::Form;
-use money_core::{Cause, Day, Text};
+use money_core::{Cause, Text};
 use std::alloc::Global;
+use std::marker::Model;
 use treasury_core::State;
 use treasury_reports::{
     Layout, accounts_report, balance_report_in, branches_report, commodities_report,
     journal_report_in, register_report_in, transfers_report, transit_report_in,
 };
+use treasury_requests::Request;
 
-/// A report that is asked for.
+/// A report that is asked for, by its request.
 #[derive(Drop)]
-pub enum Report {
-    /// The balances of the branch of that name through the day.
-    Balance {
-        branch: Text,
-        day: Day,
-    },
-    /// What the account and its subaccounts have in the branch of that name, leg by leg; with a tag, only of entries
-    /// that have it.
-    Register {
-        branch: Text,
-        account: Text,
-        tag: Option<Text>,
-    },
-    /// What is on its way between branches through the day.
-    Transit {
-        day: Day,
-    },
-    /// The journal of the branch of that name.
-    Journal {
-        branch: Text,
-    },
-    /// The branches, with their locks.
-    Branches,
-    /// The commodities.
-    Commodities,
-    /// The accounts of the branch of that name.
-    Accounts {
-        branch: Text,
-    },
-    /// The transfers of which something is open through the day.
-    Transfers {
-        day: Day,
-    },
+pub struct Report<'a> {
+    pub request: &'a Request,
+}
+
+impl<'a> Model for Report<'a> {
+    ghost use Rattle.std.specs.Prelude.{IsTrue};
+    ghost use Rattle.treasury_requests.specs.declared.request.Request.{Request};
+    ghost use Rattle.treasury_requests.specs.Request.{is_report};
+
+    ghost Value = { Request };
+
+    ghost view = { λ report. report.request.now };
+
+    ghost invariant = { λ report. IsTrue (is_report report.request.now) };
 }
 
 /// The text, if there is one.
@@ -79,11 +62,11 @@ fn push_rows<L: Ledger>(
     ensures causes { IfErr result (λ cause. (cause ≡ Cause.UnknownBranch) ⊎ (cause ≡ Cause.OutOfMemory)) }
 {
     lists_law(state);
-    match report {
-        Report::Balance { branch, day } => {
+    match report.request {
+        Request::Balance { branch, day } => {
             balance_report_in(alloc, state, branch.as_str(), *day, layout, out)
         }
-        Report::Register {
+        Request::Register {
             branch,
             account,
             tag,
@@ -96,12 +79,15 @@ fn push_rows<L: Ledger>(
             layout,
             out,
         ),
-        Report::Transit { day } => transit_report_in(alloc, state, *day, layout, out),
-        Report::Journal { branch } => journal_report_in(alloc, state, branch.as_str(), layout, out),
-        Report::Branches => branches_report(alloc, state, layout, out),
-        Report::Commodities => commodities_report(alloc, state, layout, out),
-        Report::Accounts { branch } => accounts_report(alloc, state, branch.as_str(), layout, out),
-        Report::Transfers { day } => transfers_report(alloc, state, *day, layout, out),
+        Request::Transit { day } => transit_report_in(alloc, state, *day, layout, out),
+        Request::Journal { branch } => {
+            journal_report_in(alloc, state, branch.as_str(), layout, out)
+        }
+        Request::Branches => branches_report(alloc, state, layout, out),
+        Request::Commodities => commodities_report(alloc, state, layout, out),
+        Request::Accounts { branch } => accounts_report(alloc, state, branch.as_str(), layout, out),
+        Request::Transfers { day } => transfers_report(alloc, state, *day, layout, out),
+        _ => unreachable!(),
     }
 }
 

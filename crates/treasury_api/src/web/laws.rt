@@ -12,7 +12,7 @@ ghost use Rattle.treasury_core.specs.declared.command.Answer.{Answer};
 ghost use Rattle.serde_json.specs.Data.{Data};
 ghost use Rattle.serde_json.specs.Read.{read};
 ghost use Rattle.json_text.specs.ReadBack.{HasMembers};
-ghost use Rattle.treasury_api.specs.declared.report.Report.{Report};
+ghost use Rattle.treasury_requests.specs.declared.request.Request.{Request};
 ghost use Rattle.treasury_api.specs.Report.{report_members, report_json};
 ghost use Rattle.treasury_api.specs.JsonReply.{reply_members, reply_json};
 ghost use Rattle.treasury_api.specs.Step.{Standing};
@@ -52,7 +52,7 @@ pub fn replies_law()
         (entries : Option ℕ)
         → (d : Data) × (read (reply_json styles reply told noted entries) ≡ Some d)
         × HasMembers (reply_members styles reply told noted entries) d }
-    ensures report { (f : Federation) (report : Report) → (d : Data) × (read (report_json f report) ≡ Some d)
+    ensures report { (f : Federation) (report : Request) → (d : Data) × (read (report_json f report) ≡ Some d)
         × HasMembers (report_members f report) d }
 {
     json_law();

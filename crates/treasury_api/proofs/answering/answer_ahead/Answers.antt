@@ -74,8 +74,8 @@ returns-in-Ok-push_report_in-clause-replies g c clean f of =
     (subst (λ (x : Federation). c.push_report_in.new.out.items
     ≡ c.args.out.now.items ++ report_in c.args.form x c.in-Ok-Report.report) same c.in-Ok-push_report_in.ensures.ok))
 
-pub returns-in-Ok-Report-clause-replies : goal.returns-in-Ok-Report-clause-replies
-returns-in-Ok-Report-clause-replies g c clean f of =
+pub returns-in-Err-push_report_in-clause-replies : goal.returns-in-Err-push_report_in-clause-replies
+returns-in-Err-push_report_in-clause-replies g c clean f of =
     let still_of = c.hold.ensures.of clean f of in
     let same : c.in-Some.state.now ≡ f =
     state_is g.S.Store c.hold.new.self c.in-Some.state.now f still_of c.in-Some.ensures in
@@ -92,8 +92,8 @@ returns-in-Ok-Report-clause-replies g c clean f of =
     ↔ (has_its_branch x c.in-Ok-Report.report ≡ false)) same c.push_report_in.ensures.unknown)
     c.in-Err-push_report_in.ensures.causes c.in-Err-push_report_in.ensures.err)
 
-pub returns-clause-replies : goal.returns-clause-replies
-returns-clause-replies g c clean f of =
+pub returns-in-Err-asked_by-clause-replies : goal.returns-in-Err-asked_by-clause-replies
+returns-in-Err-asked_by-clause-replies g c clean f of =
     let still_of = c.hold.ensures.of clean f of in
     let same : c.in-Some.state.now ≡ f =
     state_is g.S.Store c.hold.new.self c.in-Some.state.now f still_of c.in-Some.ensures in
@@ -285,8 +285,8 @@ returns-in-Ok-push_report_in-clause-left g c =
 
 -- ---- a report that is refused
 
-pub returns-in-Ok-Report-clause-refuses : goal.returns-in-Ok-Report-clause-refuses
-returns-in-Ok-Report-clause-refuses g c = record {
+pub returns-in-Err-push_report_in-clause-refuses : goal.returns-in-Err-push_report_in-clause-refuses
+returns-in-Err-push_report_in-clause-refuses g c = record {
   listed = λ unfailed. inl (ruled_report c.in-Err-push_report_in.cause c.in-Err-push_report_in.ensures.causes);
   fails = λ unfailed.
       fails_ruled _ _ (ruled_report c.in-Err-push_report_in.cause c.in-Err-push_report_in.ensures.causes)
@@ -294,25 +294,26 @@ returns-in-Ok-Report-clause-refuses g c = record {
   printable = tt;
 }
 
-pub returns-in-Ok-Report-clause-database : goal.returns-in-Ok-Report-clause-database
-returns-in-Ok-Report-clause-database g c =
+pub returns-in-Err-push_report_in-clause-database : goal.returns-in-Err-push_report_in-clause-database
+returns-in-Err-push_report_in-clause-database g c =
     keeps_database g.S.Store _ _ _ (λ clean is_open. inl (c.in-Ok.ensures.still_open clean is_open))
     (shuts_by g.S.Store c.args.treasury.now.store.conn c.hold.new.self.store.conn _ c.hold.ensures.crash)
 
-pub returns-in-Ok-Report-clause-closed : goal.returns-in-Ok-Report-clause-closed
-returns-in-Ok-Report-clause-closed g c failed = absurd (let k = (c.in-Ok.ensures.closed failed).0 in cc)
+pub returns-in-Err-push_report_in-clause-closed : goal.returns-in-Err-push_report_in-clause-closed
+returns-in-Err-push_report_in-clause-closed g c failed = absurd (let k = (c.in-Ok.ensures.closed failed).0 in cc)
 
-pub returns-in-Ok-Report-clause-strange : goal.returns-in-Ok-Report-clause-strange
-returns-in-Ok-Report-clause-strange g c clean unfailed unheld none = absurd (c.in-Ok.ensures.shown clean unheld none)
+pub returns-in-Err-push_report_in-clause-strange : goal.returns-in-Err-push_report_in-clause-strange
+returns-in-Err-push_report_in-clause-strange g c clean unfailed unheld none =
+    absurd (c.in-Ok.ensures.shown clean unheld none)
 
-pub returns-in-Ok-Report-clause-left : goal.returns-in-Ok-Report-clause-left
-returns-in-Ok-Report-clause-left g c =
+pub returns-in-Err-push_report_in-clause-left : goal.returns-in-Err-push_report_in-clause-left
+returns-in-Err-push_report_in-clause-left g c =
     left_same g.S.Store c.args.treasury.now c.hold.new.self c.args.request.now c.hold.ensures.left
 
 -- ---- a text that is refused
 
-pub returns-clause-refuses : goal.returns-clause-refuses
-returns-clause-refuses g c = record {
+pub returns-in-Err-asked_by-clause-refuses : goal.returns-in-Err-asked_by-clause-refuses
+returns-in-Err-asked_by-clause-refuses g c = record {
   listed = λ unfailed. inl (ruled_texts _ c.args.request.now c.in-Err-asked_by.refusal c.in-Err-asked_by.ensures.asks);
   fails = λ unfailed.
       fails_ruled _ _ (ruled_texts _ c.args.request.now c.in-Err-asked_by.refusal c.in-Err-asked_by.ensures.asks)
@@ -322,16 +323,17 @@ returns-clause-refuses g c = record {
       c.in-Err-asked_by.ensures.ready;
 }
 
-pub returns-clause-database : goal.returns-clause-database
-returns-clause-database g c =
+pub returns-in-Err-asked_by-clause-database : goal.returns-in-Err-asked_by-clause-database
+returns-in-Err-asked_by-clause-database g c =
     keeps_database g.S.Store _ _ _ (λ clean is_open. inl (c.in-Ok.ensures.still_open clean is_open))
     (shuts_by g.S.Store c.args.treasury.now.store.conn c.hold.new.self.store.conn _ c.hold.ensures.crash)
 
-pub returns-clause-closed : goal.returns-clause-closed
-returns-clause-closed g c failed = absurd (let k = (c.in-Ok.ensures.closed failed).0 in cc)
+pub returns-in-Err-asked_by-clause-closed : goal.returns-in-Err-asked_by-clause-closed
+returns-in-Err-asked_by-clause-closed g c failed = absurd (let k = (c.in-Ok.ensures.closed failed).0 in cc)
 
-pub returns-clause-strange : goal.returns-clause-strange
-returns-clause-strange g c clean unfailed unheld none = absurd (c.in-Ok.ensures.shown clean unheld none)
+pub returns-in-Err-asked_by-clause-strange : goal.returns-in-Err-asked_by-clause-strange
+returns-in-Err-asked_by-clause-strange g c clean unfailed unheld none = absurd (c.in-Ok.ensures.shown clean unheld none)
 
-pub returns-clause-left : goal.returns-clause-left
-returns-clause-left g c = left_same g.S.Store c.args.treasury.now c.hold.new.self c.args.request.now c.hold.ensures.left
+pub returns-in-Err-asked_by-clause-left : goal.returns-in-Err-asked_by-clause-left
+returns-in-Err-asked_by-clause-left g c =
+    left_same g.S.Store c.args.treasury.now c.hold.new.self c.args.request.now c.hold.ensures.left
