@@ -58,7 +58,7 @@ spelled_some None is = absurd cc
 spelled_some (Some request) is = (request, refl)
 
 -- the line of 40
-pub line_of_40 : codes "refused 40 OutOfMemory\n" ≡ answer_text [] (Err (Plain OutOfMemory))
+line_of_40 : codes "refused 40 OutOfMemory\n" ≡ answer_text [] (Err (Plain OutOfMemory))
 unfolding answer_text digits
 line_of_40 = refl
 
@@ -256,16 +256,7 @@ module _ {D : Type 0} (g : disk.Ghosts D) where
       subst (λ (b : Answered D g). SaysToJournal g image branch terms has (spoken b.said) b.left) (sym is)
       (inl (inr (subst (λ (c : Cause). IsRefusedBy c (spoken said)) memory refused), refl))
 
-  -- a word is told 40
-  pub told_40 : {W : Type 0} (image : Image) (contents : W → Option (List ℕ)) (w0 w1 : W) (status : ℕ) (word : List ℕ)
-      (values : List Row) (left : Left D g)
-      → left ≡ Untouched → Tells contents w0 w1 status
-      (record { text = codes "refused 40 OutOfMemory\n"; refused = true })
-      → IsTold g image contents w0 w1 status word values left
-  told_40 image contents w0 w1 status word values left none tells =
-      (record { text = codes "refused 40 OutOfMemory\n"; refused = true }, tells, inl ((line_of_40, refl), none))
-
-  -- or nothing, where there is no memory to read the words
+  -- a word is told nothing, where there is no memory to read the words
   pub told_nothing : {W : Type 0} (image : Image) (contents : W → Option (List ℕ)) (w0 w1 : W) (status : ℕ)
       (word : List ℕ) (values : List Row) (left : Left D g)
       → left ≡ Untouched → w1 ≡ w0 → status ≡ 1 → IsTold g image contents w0 w1 status word values left

@@ -59,7 +59,7 @@ use Rattle.treasury.specs.declared.words.serving.Ending.{Ending}
 use Rattle.treasury.specs.declared.words.serving.Ending.TheVariants.{Unbound, Unwritten, Unaccepted, Changed, Finished}
 use Rattle.treasury_files.proofs.LeftLemmas.{image_holds, stored_in, settles}
 use Rattle.treasury_files.proofs.StartedLemmas.{left_behind, committed_in}
-use Rattle.treasury.proofs.OverFileLemmas.{line_of_40, tells_nothing}
+use Rattle.treasury.proofs.OverFileLemmas.{tells_nothing}
 
 -- ---- its values
 
@@ -440,19 +440,7 @@ module _ {D : Type 0} (g : disk.Ghosts D) where
   told_unwritten image contents w0 w1 status values (Some Changed) said left first says is one = absurd cc
   told_unwritten image contents w0 w1 status values (Some Finished) said left first says is one = absurd cc
 
-  -- 40 is told
-  pub told_served_40 : {W : Type 0} (image : Image) (contents : W → Option (List ℕ)) (w0 w1 : W) (status : ℕ)
-      (values : List Row) (left : Left D g)
-      → left ≡ Untouched → Tells contents w0 w1 status
-      (record { text = codes "refused 40 OutOfMemory\n"; refused = true })
-      → IsServedOver g image contents w0 w1 status values left
-  told_served_40 image contents w0 w1 status values left none tells = inl (
-    record { text = codes "refused 40 OutOfMemory\n"; refused = true },
-    tells,
-    inl ((line_of_40, refl), none),
-  )
-
-  -- or nothing, where there is no memory to read the words
+  -- nothing is told, where there is no memory to read the words
   pub served_nothing : {W : Type 0} (image : Image) (contents : W → Option (List ℕ)) (w0 w1 : W) (status : ℕ)
       (values : List Row) (left : Left D g)
       → left ≡ Untouched → w1 ≡ w0 → status ≡ 1 → IsServedOver g image contents w0 w1 status values left

@@ -1,6 +1,6 @@
 -- Mirrors code: how a word over a database file is answered, part by part.
-use Rattle.std.specs.Prelude.{◌≡◌, ◌≢◌, ◌≤◌, ◌⊎◌, ℕ, true, List, [], Option, None, Some, codes, vec_capacity}
-use Rattle.std.specs.Global.{Vec}
+use Rattle.std.specs.Prelude.{◌≡◌, ◌≢◌, ◌⊎◌, ℕ, true, List, Option, None, Some, codes}
+use Rattle.std.specs.Cow.{cow_slice_items}
 use Rattle.clap.specs.declared.error.kind.ErrorKind.{ErrorKind}
 use Rattle.clap.specs.declared.error.kind.ErrorKind.TheVariants.{OutOfMemory as NoMemory, DisplayHelp, DisplayVersion}
 use Rattle.sqlite_disk.specs.declared.Disk as disk
@@ -18,7 +18,7 @@ use Rattle.treasury.specs.OverFile.{Spoken, IsRefusedBefore, SaysOver, SaysToJou
 
 -- what is said to a word, less the reason
 abbrev pub spoken : Said → Spoken
-spoken said = record { text = said.answer.items; refused = said.is_refused }
+spoken said = record { text = cow_slice_items said.answer; refused = said.is_refused }
 
 -- words that are not taken are answered 1 for want of memory, 2 where they ask for nothing, and otherwise where they
 -- ask for help or for the version
@@ -27,10 +27,6 @@ AnswersUntaken kind w0 w1 status =
     ((kind ≡ NoMemory) × ((status ≡ 1) × (w1 ≡ w0)))
     ⊎ ((((kind ≡ DisplayHelp) ⊎ (kind ≡ DisplayVersion)) × (status ≢ 2))
     ⊎ ((kind ≢ NoMemory) × ((status ≡ 2) × (w1 ≡ w0))))
-
--- an empty vector with room for the line of a plain answer
-abbrev pub IsRoom : Vec ℕ → Type 0
-IsRoom room = (room.items ≡ []) × (64 ≤ vec_capacity room)
 
 -- what is said to `import`, by its values: its journal is read first
 abbrev pub SaysToImport : {D : Type 0} → (g : disk.Ghosts D) → Image → List Row → Spoken → Left D g → Type 0

@@ -25,7 +25,7 @@ ghost use Rattle.treasury_spelling.specs.Words.{AreTaken, named, AskForRun, AskF
 ghost use Rattle.treasury.specs.CutOff.{IsCutShort};
 ghost use Rattle.treasury.specs.OverFile.{Tells, IsTold};
 ghost use Rattle.treasury.specs.Serving.{IsServedOver};
-ghost use Rattle.treasury.specs.OverFileParts.{AnswersUntaken};
+ghost use Rattle.treasury.specs.OverFileParts.{spoken, AnswersUntaken};
 ghost use Rattle.clap.specs.Values.{kind_of};
 
 use crate::laws::{files_law, serving_law, words_law};
@@ -44,8 +44,8 @@ use std::alloc::Global;
 use std::io::{Read, Write};
 use std::mem::ManuallyDrop;
 use treasury_api::{
-    Listener, NOTHING_ENTERED, NoListener, commands_law, refusal_law, room_for_line,
-    run_heard_lines, run_law, taken_law, write_whole,
+    Listener, NOTHING_ENTERED, NoListener, commands_law, refusal_law, run_heard_lines, run_law,
+    taken_law, write_whole,
 };
 use treasury_files::{Left, Turn, wait_for};
 use treasury_laws::{
@@ -177,9 +177,6 @@ fn show_text<W: Write>(rt: &HostRuntime, text: &Error, output: &mut W) -> u8
     }
 }
 
-/// The answer where there is no memory for one.
-const NO_MEMORY: &[u8] = b"refused 40 OutOfMemory\n";
-
 /// The exit status where the output takes no more, which is said on standard error; of a pipe that nobody reads it is
 /// not.
 fn unwritten<H: Eprint>(rt: &H) -> u8
@@ -193,11 +190,11 @@ fn unwritten<H: Eprint>(rt: &H) -> u8
 
 /// Writes the answer to a word to the output, and answers the exit status: 1 where it is a refusal or cannot be
 /// written.
-fn write_answer<W: Write>(rt: &HostRuntime, answer: &[u8], is_refused: bool, output: &mut W) -> u8
-    ensures { Tells W.contents output.old output.new result (record { text = answer.now; refused = is_refused }) }
+fn write_answer<W: Write>(rt: &HostRuntime, said: &Said, output: &mut W) -> u8
+    ensures { Tells W.contents output.old output.new result (spoken said.now) }
 {
-    match write_whole(output, answer) {
-        Ok(()) => u8::from(is_refused),
+    match write_whole(output, said.answer.as_slice()) {
+        Ok(()) => u8::from(said.is_refused),
         Err(_) => unwritten(rt),
     }
 }
@@ -238,16 +235,10 @@ fn do_over_file<W: Write, S: Start>(
 {
     words_law();
     files_law::<FileFrom<S>>();
-    let Ok(room) = room_for_line(rt.alloc()) else {
-        return Ended {
-            status: write_answer(rt, NO_MEMORY, true, output),
-            left: Left::Untouched,
-        };
-    };
     let turn = turn_on(rt, values);
-    let Answered { said, left } = answer_over_file(rt, room, word, values, start);
+    let Answered { said, left } = answer_over_file(rt, word, values, start);
     drop(turn);
-    let status = write_answer(rt, said.answer.as_slice(), said.is_refused, output);
+    let status = write_answer(rt, &said, output);
     tell(rt, values, &said);
     Ended { status, left }
 }
@@ -265,14 +256,8 @@ fn do_serve<W: Write, S: Start>(
     ensures usage { result.status ≢ 2 }
 {
     serving_law::<FileFrom<S>>();
-    let Ok(room) = room_for_line(rt.alloc()) else {
-        return Ended {
-            status: write_answer(rt, NO_MEMORY, true, output),
-            left: Left::Untouched,
-        };
-    };
     let turn = turn_on(rt, values);
-    let Serving { ending, said, left } = serve_over_file(rt, room, values, output, start);
+    let Serving { ending, said, left } = serve_over_file(rt, values, output, start);
     drop(turn);
     if is_unwritten(ending) {
         return Ended {
@@ -280,7 +265,7 @@ fn do_serve<W: Write, S: Start>(
             left,
         };
     }
-    let status = write_answer(rt, said.answer.as_slice(), said.is_refused, output);
+    let status = write_answer(rt, &said, output);
     tell(rt, values, &said);
     Ended { status, left }
 }

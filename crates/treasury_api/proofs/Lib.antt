@@ -1,3 +1,4 @@
+pub mod PlainLemmas
 pub mod WriteLemmas
 pub mod LineLemmas
 pub mod RunLemmas

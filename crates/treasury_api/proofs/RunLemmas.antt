@@ -10,7 +10,7 @@ use Rattle.money_core.specs.declared.cause.Cause.TheVariants.{OutOfMemory, ReadF
 use Rattle.treasury_api.specs.Transcript.{requests_among, AnswersInTurn, IsTranscript}
 use Rattle.treasury_api.specs.RunEnd.{IsWholeLines, HasNoLineFeed, AnswersWhole, GoesOn, GaveUp, Torn, StopsBy}
 use Rattle.treasury_api.specs.RunEnd.{Finished, Broken, EndsBy}
-use Rattle.treasury_api.specs.Served.{Served, Unserved, HalfServed, FailsLineBy}
+use Rattle.treasury_api.specs.Served.{Served, HalfServed, FailsLineBy}
 use Rattle.treasury_api.proofs.LineLemmas.{requests_one, requests_last, whole-append, transcript-append}
 
 abbrev pub Stepping : Type 0 → Type 1
@@ -103,23 +103,6 @@ gave_up_here Step w0 w1 s t seen line rest all so_far split = record {
   appended = so_far.appended;
 }
 
-gave_up : {S : Type 0} (Step : Stepping S) (w0 w1 w2 : Option (List ℕ)) (s m t : S) (seen line further all : List ℕ)
-    → AnswersWhole Step w0 w1 s seen line m → Unserved w1 w2 m t
-    → ((whole : List ℕ) → seen ≡ whole ++ line → all ≡ whole ++ further) → GaveUp Step w0 w2 s all t
-gave_up {S = S} Step w0 w1 w2 s m t seen line further all so_far failed split = record {
-  whole = so_far.whole;
-  further = further;
-  written = so_far.written ++ [];
-  split = split so_far.whole so_far.split;
-  complete = so_far.complete;
-  transcript = (
-      let P : List ℕ → Type 0 = λ o. IsTranscript Step s so_far.whole o t in
-      let Q : S → Type 0 = λ end. IsTranscript Step s so_far.whole so_far.written end in
-      subst P (sym (append-nil so_far.written)) (subst Q (sym failed.same) so_far.transcript)
-      );
-  appended = Appends-trans w0 w1 w2 so_far.written [] so_far.appended failed.appended;
-}
-
 half_served_is_torn : {S : Type 0} (Step : Stepping S) (AtEnd : Type 0) (w0 w1 w2 : Option (List ℕ)) (s m t : S)
     (seen line further all : List ℕ) (requests : List (List ℕ)) → AnswersWhole Step w0 w1 s seen line m
     → HalfServed Step w1 w2 m requests t → ((request : List ℕ) → requests ≡ request ∷ [] → GoesOn AtEnd further request)
@@ -146,8 +129,6 @@ stops_by_failing : {S : Type 0} (cause : Cause) (Step : Stepping S) (AtEnd : Typ
     → FailsLineBy cause Step w1 w2 m requests t
     → ((request : List ℕ) → requests ≡ request ∷ [] → GoesOn AtEnd further request)
     → ((whole : List ℕ) → seen ≡ whole ++ line → all ≡ whole ++ further) → StopsBy cause Step AtEnd w0 w2 s all t
-stops_by_failing OutOfMemory Step AtEnd w0 w1 w2 s m t seen line further all requests so_far failed next split =
-    gave_up Step w0 w1 w2 s m t seen line further all so_far failed split
 stops_by_failing WriteFault Step AtEnd w0 w1 w2 s m t seen line further all requests so_far failed next split =
     half_served_is_torn Step AtEnd w0 w1 w2 s m t seen line further all requests so_far failed next split
 stops_by_failing _ Step AtEnd w0 w1 w2 s m t seen line further all requests so_far failed next split = absurd failed

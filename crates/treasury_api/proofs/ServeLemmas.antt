@@ -85,22 +85,11 @@ refused_line styles (ClaimFailed failure) cause empty text none said is =
     inr (said ∙ ap (λ (xs : List ℕ). xs ++ answer_text styles (Err (ClaimFailed failure))) none, is)
 
 -- that of want of memory in place of one that is not plain
-pub memory_line : (styles : List Style) (refusal : Refusal) (empty mid text : List ℕ) → empty ≡ [] → mid ≡ empty
-    → text ≡ mid ++ answer_text styles (Err (Plain OutOfMemory)) → (IsPlainAnswer (Err refusal) → ⊥)
-    → IsLineBy styles refusal OutOfMemory text
-memory_line styles (Plain because) empty mid text none same said other = absurd (other tt)
-memory_line styles (Text fault) empty mid text none same said other =
-    inl (
-      said ∙ (ap (λ (xs : List ℕ). xs ++ answer_text styles (Err (Plain OutOfMemory))) (same ∙ none) ∙ sym
-          (plain_line styles OutOfMemory)),
-      refl,
-    )
-memory_line styles (ClaimFailed failure) empty mid text none same said other =
-    inl (
-      said ∙ (ap (λ (xs : List ℕ). xs ++ answer_text styles (Err (Plain OutOfMemory))) (same ∙ none) ∙ sym
-          (plain_line styles OutOfMemory)),
-      refl,
-    )
+pub memory_line : (styles : List Style) (refusal : Refusal) (text : List ℕ) → ((x : Cause) → refusal ≢ Plain x)
+    → text ≡ answer_text [] (Err (Plain OutOfMemory)) → IsLineBy styles refusal OutOfMemory text
+memory_line styles (Plain because) text other said = absurd (other because refl)
+memory_line styles (Text fault) text other said = inl (said, refl)
+memory_line styles (ClaimFailed failure) text other said = inl (said, refl)
 
 -- what is known of the line alone
 line_in : (styles : List Style) (refusal : Refusal) (cause : Cause) (text : List ℕ) → IsLineBy styles refusal cause text

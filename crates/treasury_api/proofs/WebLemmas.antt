@@ -2,13 +2,14 @@
 use Rattle.std.proofs.Math.Bool.{or-true}
 use Rattle.std.proofs.Common.{◌≡◌, ◌≢◌, ◌<◌, ◌⊎◌, ◌++◌, ℕ, List, [], ◌∷◌, length, Bool, true, false, Option, Some}
 use Rattle.std.proofs.Common.{None, Result, Ok, Err, IsTrue, MatchOption, ◌||◌, take, codes, refl, ap, ◌∙◌, sym, subst}
-use Rattle.std.proofs.Common.{inl, inr}
+use Rattle.std.proofs.Common.{inl, inr, IfOk, OnErr, ◌==◌, if◌then◌else◌}
 use Rattle.std.proofs.Math.Path.{path_j, subst_refl}
 use Rattle.std.specs.Io.KnownBytes.{Appends}
 use Rattle.sqlite.specs.Store.{Ghosts}
 use Rattle.sqlite.specs.Held.{Held, state}
 use Rattle.http_request.specs.declared.call.Call.{Call}
 use Rattle.http_request.specs.declared.call.Form.{Form}
+use Rattle.http_request.specs.declared.call.Form.TheVariants as form
 use Rattle.http_request.specs.Call.{IsStopped}
 use Rattle.money_core.specs.declared.cause.Cause.{Cause}
 use Rattle.money_core.specs.declared.cause.Cause.TheVariants.{OutOfMemory, ReadFault, WriteFault}
@@ -30,7 +31,7 @@ use Rattle.treasury_api.specs.Left.{FailsWith, IsOpenBut, LeavesAsked, LeavesReq
 use Rattle.treasury_api.specs.Replied.{standing}
 use Rattle.treasury_api.specs.History.{command_if}
 use Rattle.treasury_api.specs.OneRequest.{AnswersAs, RepliesAs, is_refusal, command_of}
-use Rattle.treasury_api.specs.WebReply.{status_of, status_of_number, whole_reply}
+use Rattle.treasury_api.specs.WebReply.{status_of, status_of_number, form_of_reply, whole_reply}
 use Rattle.treasury_api.specs.Web.{asked_by, IsNoAnswer, IsBodyIn, AnswersCall, AnswersOn}
 use Rattle.treasury_api.specs.Web.{IsRefusal44, AnswersRead, FailsCallBy}
 use Rattle.treasury_api.specs.Web.{ServesOne, AnsweredCall, AreServed, turns_of_calls, OneFails, LeavesCalls, HasServed}
@@ -150,6 +151,25 @@ request_answered g old new form call request status body asks replies leaves = r
   shuts = leaves.shuts;
   closed = leaves.closed;
 }
+
+-- in text, whatever the status is
+pub text_form : (status : ℕ) → form.Text ≡ form_of_reply form.Text status
+text_form status = by_test ((status == 403) || (status == 404))
+  where
+    by_test : (nowhere : Bool) → form.Text ≡ (if nowhere then form.Text else form.Text)
+    by_test true = refl
+    by_test false = refl
+
+-- what holds is so where no reply is made
+pub unless_made : {X E P : Type 0} (result : Result X E) → P → OnErr result P
+unless_made (Ok x) p = tt
+unless_made (Err e) p = p
+
+-- of a reply that is made
+pub replied : {X E : Type 0} (P Q R : X → Type 0) (result : Result X E) → ((x : X) → P x → Q x → R x) → IfOk result P
+    → IfOk result Q → IfOk result R
+replied P Q R (Ok x) both p q = both x p q
+replied P Q R (Err e) both p q = tt
 
 -- ---- calls one after another
 

@@ -3,7 +3,7 @@ use Rattle.std.specs.Prelude.{◌≡◌, ◌<◌, ℕ, ◌==◌, List, [], ◌�
 use Rattle.std.specs.Prelude.{MatchResult}
 use Rattle.std.specs.Io.KnownBytes.{Appends}
 use Rattle.money_core.specs.declared.cause.Cause.{Cause}
-use Rattle.money_core.specs.declared.cause.Cause.TheVariants.{OutOfMemory, WriteFault}
+use Rattle.money_core.specs.declared.cause.Cause.TheVariants.{WriteFault}
 use Rattle.treasury_api.specs.Transcript.{AnswersInTurn}
 use Rattle.treasury_api.specs.RunEnd.{AnswersWhole, StopsBy}
 
@@ -13,11 +13,6 @@ pub record Served {S : Type 0} (Step : S → List ℕ → List ℕ → S → Typ
   pub written : List ℕ
   pub answers : AnswersInTurn Step start requests written end
   pub appended : Appends w0 w1 written
-
--- memory was refused: nothing was written, and the state is as before
-pub record Unserved {S : Type 0} (w0 w1 : Option (List ℕ)) (start end : S) : Type 0 where
-  pub appended : Appends w0 w1 []
-  pub same : end ≡ start
 
 -- a write failed: of the one request's answer a first part was written, and not all
 pub record HalfServed {S : Type 0} (Step : S → List ℕ → List ℕ → S → Type 0)
@@ -33,7 +28,6 @@ pub record HalfServed {S : Type 0} (Step : S → List ℕ → List ℕ → S →
 -- the requests are not served, for this cause
 abbrev pub FailsLineBy : {S : Type 0} → Cause → (S → List ℕ → List ℕ → S → Type 0)
     → Option (List ℕ) → Option (List ℕ) → S → List (List ℕ) → S → Type 0
-FailsLineBy OutOfMemory Step w0 w1 start requests end = Unserved w0 w1 start end
 FailsLineBy WriteFault Step w0 w1 start requests end = HalfServed Step w0 w1 start requests end
 FailsLineBy _ Step w0 w1 start requests end = ⊥
 

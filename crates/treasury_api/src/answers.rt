@@ -1,6 +1,6 @@
 //! The line of an answer.
 
-ghost use Rattle.std.specs.Prelude.{◌≡◌, [], ◌++◌, codes, IfOk, OnOk, OnErr};
+ghost use Rattle.std.specs.Prelude.{◌≡◌, ◌++◌, codes, OnOk, OnErr};
 ghost use Rattle.std.specs.Prelude.{◌+◌, ◌≤◌, length, IsOk, vec_capacity};
 ghost use Rattle.std.specs.List.{flat_map};
 ghost use Rattle.std.specs.Result.{IsOkUnless};
@@ -10,6 +10,7 @@ ghost use Rattle.treasury_api.specs.Answer.{refused_text, at_line_text, place_te
 ghost use Rattle.treasury_api.specs.Answer.{done_text, answer_text, IsPrintableRefusal, IsPrintableAnswer};
 ghost use Rattle.treasury_api.specs.Answer.{IsPlainAnswer};
 
+use crate::plain::plain_line;
 use book_core::{Failure, Place, Refusal};
 use itoa::Buffer;
 use journal_lines::print_date;
@@ -19,14 +20,6 @@ use treasury_core::Answer;
 
 /// The line of an answer that is no text fault and no failed assertion has at most that many bytes.
 pub const MOST_PLAIN: usize = 64;
-
-/// Room for such a line. It is taken before anything is done, so that what is done can be answered.
-pub fn room_for_line(alloc: Global) -> Result<Vec<u8>, AllocError>
-    ensures empty { IfOk result (λ room. room.items ≡ []) }
-    ensures room { IfOk result (λ room. MOST_PLAIN ≤ vec_capacity room) }
-{
-    Vec::with_capacity(alloc, MOST_PLAIN)
-}
 
 /// Appends the pieces. Where memory is refused, the line is as it was; where there is room, it is not.
 pub fn push_pieces(pieces: &[&[u8]], line: &mut Vec<u8>) -> Result<(), AllocError>
@@ -87,8 +80,6 @@ fn push_named<'a>(
     ensures ok { OnOk result (line.new.items
         ≡ line.old.items ++ codes "refused " ++ nr.now ++ codes " " ++ name.now ++ detail.now ++ codes "\n") }
     ensures err { OnErr result (line.new.items ≡ line.old.items) }
-    ensures room { length line.old.items + length nr.now + length name.now + length detail.now + 10
-        ≤ vec_capacity line.old → IsOk result }
     ensures capacity { vec_capacity line.old ≤ vec_capacity line.new }
 {
     push_pieces(&[b"refused ", nr, b" ", name, detail, b"\n"], line)
@@ -98,7 +89,6 @@ fn push_named<'a>(
 fn push_refused(cause: Cause, detail: &[u8], line: &mut Vec<u8>) -> Result<(), AllocError>
     ensures ok { OnOk result (line.new.items ≡ line.old.items ++ refused_text cause ++ detail.now ++ codes "\n") }
     ensures err { OnErr result (line.new.items ≡ line.old.items) }
-    ensures room { length line.old.items + length detail.now + MOST_PLAIN ≤ vec_capacity line.old → IsOk result }
     ensures capacity { vec_capacity line.old ≤ vec_capacity line.new }
 {
     let mut buffer = Buffer::new();
@@ -170,7 +160,7 @@ fn push_refusal(
     ensures capacity { vec_capacity line.old ≤ vec_capacity line.new }
 {
     match refusal {
-        Refusal::Plain(cause) => push_refused(*cause, b"", line)?,
+        Refusal::Plain(cause) => line.extend_from_slice(plain_line(*cause))?,
         Refusal::Text(fault) => {
             let mut detail = Vec::new(alloc);
             push_line(alloc, fault.cause, fault.line, &mut detail)?;

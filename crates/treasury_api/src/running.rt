@@ -1,10 +1,10 @@
 //! The run of a treasury over the lines of a reader.
 
-ghost use Rattle.std.specs.Prelude.{◌≡◌, ◌≤◌, ◌⊎◌, ◌++◌, [], None, Some, Err, vec_capacity, IsTrue, IfOk, IfErr, OnOk};
-ghost use Rattle.std.specs.Prelude.{OnErr};
+ghost use Rattle.std.specs.Prelude.{◌≡◌, ◌⊎◌, ◌++◌, [], None, Some, Err, IsTrue, IfOk, IfErr, OnOk, OnErr};
+ghost use Rattle.std.specs.Cow.{cow_slice_items};
 ghost use Rattle.treasury_tables.specs.Kept.{ShutsByFault};
 ghost use Rattle.treasury_requests.specs.Request.{HasDayNumbers, is_report, spelled};
-ghost use Rattle.treasury_api.specs.Answer.{IsPrintableRefusal};
+ghost use Rattle.treasury_api.specs.Answer.{answer_text, IsPrintableRefusal};
 ghost use Rattle.treasury_api.specs.Kept.{RunsOn, CutsOff};
 ghost use Rattle.treasury_api.specs.Replied.{IsPrintableIn, IsLineOf, Serves};
 ghost use Rattle.treasury_api.specs.Serving.{end_of_report};
@@ -12,16 +12,18 @@ ghost use Rattle.treasury_api.specs.WebReply.{cause_of};
 ghost use Rattle.treasury_api.specs.WebServing.{IsLineBy, IsToldBy};
 
 use crate::answering::answer_ahead;
-use crate::answers::{MOST_PLAIN, answer_line, room_for_line};
+use crate::answers::answer_line;
 use crate::lines::{Machine, run_machine};
 use crate::listener::{Listener, NoListener};
+use crate::plain::plain_line;
 use crate::telling::Grounds;
 use book_core::Refusal;
 use http_request::Form;
 use journal_format::reading_law;
 use money_core::{Cause, Styles};
 use sqlite::Alter;
-use std::alloc::{AllocError, Global};
+use std::alloc::Global;
+use std::borrow::CowSlice;
 use std::io::{Read, Write};
 use treasury_core::Answer;
 use treasury_requests::{Request, Spelled, read_line};
@@ -42,7 +44,7 @@ fn end_report(alloc: Global, request: &Request, text: &mut Vec<u8>) -> Result<()
 /// The line of a refusal, and its cause.
 #[derive(Debug, Drop)]
 pub struct Line {
-    pub text: Vec<u8>,
+    pub text: CowSlice<'static, u8>,
     pub cause: Cause,
 }
 
@@ -57,63 +59,60 @@ pub(crate) fn cause_of(refusal: &Refusal) -> Cause
     }
 }
 
-/// The line of a refusal, on an empty vector that has room for a plain one. Where memory is refused for another, it is
-/// the line of 40.
-fn refuse_in(alloc: Global, styles: &Styles, refusal: Refusal, room: Vec<u8>) -> Line
-    requires printable { IsPrintableRefusal styles.now refusal }
-    requires empty { room.items ≡ [] }
-    requires room { MOST_PLAIN ≤ vec_capacity room }
-    ensures { IsLineBy styles.now refusal result.cause result.text.items }
+/// The line of a plain refusal.
+#[tactic(auto, unfolding(crate::specs::Answer::answer_text))]
+fn plain(cause: Cause) -> Line
+    ensures text { cow_slice_items result.text ≡ answer_text [] (Err (Refusal.Plain cause)) }
+    ensures cause { result.cause ≡ cause }
+{
+    Line {
+        text: CowSlice::Borrowed(plain_line(cause)),
+        cause,
+    }
+}
+
+/// The line of a refusal. Where memory is refused for one that is not plain, it is the line of 40.
+fn refuse_in(alloc: Global, styles: &Styles, refusal: Refusal) -> Line
+    requires { IsPrintableRefusal styles.now refusal }
+    ensures { IsLineBy styles.now refusal result.cause (cow_slice_items result.text) }
 {
     let cause = cause_of(&refusal);
-    let mut text = room;
-    match answer_line(alloc, &Err(refusal), styles, &mut text) {
-        Ok(()) => Line { text, cause },
-        Err(_) => {
-            let no_memory = Err(Refusal::Plain(Cause::OutOfMemory));
-            match answer_line(alloc, &no_memory, styles, &mut text) {
+    match refusal {
+        Refusal::Plain(cause) => plain(cause),
+        _ => {
+            let mut text = Vec::new(alloc);
+            match answer_line(alloc, &Err(refusal), styles, &mut text) {
                 Ok(()) => Line {
-                    text,
-                    cause: Cause::OutOfMemory,
+                    text: CowSlice::Owned(text),
+                    cause,
                 },
-                Err(_) => unreachable!(),
+                Err(_) => plain(Cause::OutOfMemory),
             }
         }
     }
 }
 
 /// The line of a refusal by the treasury, and its cause, as `refuse_in` makes it.
-pub fn refuse_by<S: Alter>(
-    alloc: Global,
-    treasury: &Treasury<S>,
-    refusal: Refusal,
-    room: Vec<u8>,
-) -> Line
-    requires printable { IsPrintableIn treasury.now refusal }
-    requires empty { room.items ≡ [] }
-    requires room { MOST_PLAIN ≤ vec_capacity room }
-    ensures { IsToldBy treasury.now refusal result.cause result.text.items }
+pub fn refuse_by<S: Alter>(alloc: Global, treasury: &Treasury<S>, refusal: Refusal) -> Line
+    requires { IsPrintableIn treasury.now refusal }
+    ensures { IsToldBy treasury.now refusal result.cause (cow_slice_items result.text) }
 {
     match treasury.state() {
-        Some(state) => refuse_in(alloc, state.styles(), refusal, room),
-        None => refuse_in(alloc, &Styles::empty(alloc), refusal, room),
+        Some(state) => refuse_in(alloc, state.styles(), refusal),
+        None => refuse_in(alloc, &Styles::empty(alloc), refusal),
     }
 }
 
-/// The line of a refusal by the treasury, in room for a plain one. Where memory is refused for another, it is the line
-/// of 40.
+/// The line of a refusal by the treasury. Where memory is refused for one that is not plain, it is the line of 40.
 pub fn refuse<S: Alter>(
     alloc: Global,
     treasury: &Treasury<S>,
     refusal: Refusal,
-    room: Vec<u8>,
-) -> Vec<u8>
-    requires printable { IsPrintableIn treasury.now refusal }
-    requires empty { room.items ≡ [] }
-    requires room { MOST_PLAIN ≤ vec_capacity room }
-    ensures { IsLineOf treasury.now refusal result.items }
+) -> CowSlice<'static, u8>
+    requires { IsPrintableIn treasury.now refusal }
+    ensures { IsLineOf treasury.now refusal (cow_slice_items result) }
 {
-    refuse_by(alloc, treasury, refusal, room).text
+    refuse_by(alloc, treasury, refusal).text
 }
 
 /// What has to be left of memory before a command, in bytes: more than its rows take in a database in memory, and more
@@ -151,18 +150,14 @@ impl<S: Alter> Machine for Treasury<S> {
         alloc: Global,
         line: &[u8],
         listener: &mut L,
-    ) -> Result<Vec<u8>, AllocError> {
+    ) -> CowSlice<'static, u8> {
         reading_law();
         left_law::<S>();
-        let room = match room_for_line(alloc) {
-            Ok(room) => room,
-            Err(error) => return Err(error),
-        };
         let request = match read_within_memory(alloc, line) {
             Ok(request) => request,
             Err(cause) => {
                 listener.tell_unasked(alloc, line, cause);
-                return Ok(refuse(alloc, self, Refusal::Plain(cause), room));
+                return refuse(alloc, self, Refusal::Plain(cause));
             }
         };
         let mut text = Vec::new(alloc);
@@ -172,13 +167,13 @@ impl<S: Alter> Machine for Treasury<S> {
             Ok(()) => {
                 listener.tell(alloc, self.state(), &request, &grounds, None);
                 match end_report(alloc, &request.request, &mut text) {
-                    Ok(()) => Ok(text),
-                    Err(_) => Ok(refuse(alloc, self, Refusal::Plain(Cause::OutOfMemory), room)),
+                    Ok(()) => CowSlice::Owned(text),
+                    Err(_) => refuse(alloc, self, Refusal::Plain(Cause::OutOfMemory)),
                 }
             }
             Err(refusal) => {
                 listener.tell(alloc, self.state(), &request, &grounds, Some(&refusal));
-                Ok(refuse(alloc, self, refusal, room))
+                refuse(alloc, self, refusal)
             }
         }
     }
@@ -210,8 +205,8 @@ pub fn run_heard_lines<R: Read, W: Write, S: Alter, L: Listener>(
 ///
 /// On `Ok` all input was read, and what was written is its transcript. 45 comes where a read fails, whatever its error,
 /// or where the input goes on past 64 MiB: the complete lines before that are answered. 46 comes where a write fails or
-/// takes nothing: the last answer may be cut off, and its command stands. 40 comes where there is no memory for an
-/// answer: its request has changed nothing.
+/// takes nothing: the last answer may be cut off, and its command stands. 40 comes where there is no memory for a
+/// line: its request has changed nothing.
 ///
 /// What a stop, a crash or a 41 leaves are the rows of the state where the run is, or of the one where the command
 /// leads that it was at.

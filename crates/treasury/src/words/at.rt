@@ -3,6 +3,7 @@
 mod own_lines;
 
 ghost use Rattle.std.specs.Prelude.{◌≡◌, ◌≢◌, Err, ℕ, List, take, string_bytes, IfOk, IfErr, IfSome, OnOk, OnErr};
+ghost use Rattle.std.specs.Cow.{cow_slice_items};
 ghost use Rattle.clap.specs.Matches.{found_of};
 ghost use Rattle.clap.specs.Walk.{rows_of};
 ghost use Rattle.treasury_requests.specs.Request.{HasDayNumbers};
@@ -12,7 +13,7 @@ ghost use Rattle.treasury_client.specs.Reply.{SaysToCommand, SaysToReport};
 ghost use Rattle.treasury.specs.At.{AsksFor, AsksService, MayAsk, cause_of_silence};
 ghost use Rattle.treasury.specs.At.{SaysFrom, SaysToBytesAt, SaysToImportAt, SaysToFormAt, SaysAt};
 ghost use Rattle.treasury.specs.Spoken.{IsRefusedBy};
-ghost use Rattle.treasury.specs.OverFileParts.{spoken, IsRoom};
+ghost use Rattle.treasury.specs.OverFileParts.{spoken};
 
 use crate::words::at::own_lines::with_own_lines;
 use crate::words::over_file::{import_of, lacking};
@@ -21,6 +22,7 @@ use crate::words::said::{Said, refused};
 use clap::ArgMatches;
 use money_core::Cause;
 use std::alloc::Global;
+use std::borrow::CowSlice;
 use std::fs;
 use std::io::{Read, Write};
 use std::net::TcpStream;
@@ -209,7 +211,7 @@ fn said_of(heard: Heard) -> Said
     ensures { spoken result ≡ record { text = heard.answer.items; refused = heard.is_refused } }
 {
     Said {
-        answer: heard.answer,
+        answer: CowSlice::Owned(heard.answer),
         reason: heard.said,
         is_refused: heard.is_refused,
     }
@@ -223,7 +225,7 @@ fn hear_command_at(
     journal: Option<&[u8]>,
 ) -> Result<Said, Unheard>
     requires { HasDayNumbers request.now.request }
-    ensures { IfOk result (λ said. (came : List ℕ) × SaysToCommand came said.answer.items said.is_refused) }
+    ensures { IfOk result (λ said. (came : List ℕ) × SaysToCommand came (cow_slice_items said.answer) said.is_refused) }
 {
     let stream = match reach(rt, port) {
         Ok(stream) => stream,
@@ -240,7 +242,7 @@ fn hear_command_at(
 /// Hears what the service at the port says to a report.
 fn hear_report_at(rt: &HostRuntime, port: u16, request: &Spelled) -> Result<Said, Unheard>
     requires { HasDayNumbers request.now.request }
-    ensures { IfOk result (λ said. (came : List ℕ) × SaysToReport came said.answer.items said.is_refused) }
+    ensures { IfOk result (λ said. (came : List ℕ) × SaysToReport came (cow_slice_items said.answer) said.is_refused) }
 {
     let stream = match reach(rt, port) {
         Ok(stream) => stream,
@@ -290,7 +292,7 @@ fn with_reason(rt: &HostRuntime, port: u16, request: &Spelled, said: Said) -> Sa
 /// What is said to the request of a report.
 fn ask_report(rt: &HostRuntime, port: u16, request: &Spelled) -> Result<Said, Unheard>
     requires { HasDayNumbers request.now.request }
-    ensures { IfOk result (λ said. (came : List ℕ) × SaysToReport came said.answer.items said.is_refused) }
+    ensures { IfOk result (λ said. (came : List ℕ) × SaysToReport came (cow_slice_items said.answer) said.is_refused) }
 {
     match hear_report_at(rt, port, request) {
         Ok(said) => Ok(with_reason(rt, port, request, said)),
@@ -317,14 +319,13 @@ fn hint_text(alloc: Global, words: &'static [u8]) -> Vec<u8> {
 }
 
 /// Said where there is no reply to a request.
-fn unanswered(alloc: Global, room: Vec<u8>, port: u16, request: &Spelled, why: Unheard) -> Said
-    requires { IsRoom room }
+fn unanswered(alloc: Global, port: u16, request: &Spelled, why: Unheard) -> Said
     ensures { IsRefusedBy (cause_of_silence why) (spoken result) }
 {
     let cause = why.cause();
     let said = match format!(in alloc; "{HOST}:{port}") {
-        Ok(address) => refused(alloc, room, cause, address.as_str(), why.reason()),
-        Err(_) => refused(alloc, room, cause, HOST, why.reason()),
+        Ok(address) => refused(alloc, cause, address.as_str(), why.reason()),
+        Err(_) => refused(alloc, cause, HOST, why.reason()),
     };
     let mut reason = said.reason;
     let mut safe = hint_text(alloc, why_safe(request));
@@ -337,26 +338,19 @@ fn unanswered(alloc: Global, room: Vec<u8>, port: u16, request: &Spelled, why: U
 }
 
 /// Answers the request of a word by what a service replies. `journal` names the journal in what is said.
-fn answer_request_at(
-    rt: &HostRuntime,
-    room: Vec<u8>,
-    port: u16,
-    request: &Spelled,
-    journal: Option<&[u8]>,
-) -> Said
-    requires room { IsRoom room }
-    requires days { HasDayNumbers request.now.request }
+fn answer_request_at(rt: &HostRuntime, port: u16, request: &Spelled, journal: Option<&[u8]>) -> Said
+    requires { HasDayNumbers request.now.request }
     ensures { SaysFrom request.now (spoken result) }
 {
     if request.request.is_report() {
         match ask_report(rt, port, request) {
             Ok(said) => said,
-            Err(why) => unanswered(rt.alloc(), room, port, request, why),
+            Err(why) => unanswered(rt.alloc(), port, request, why),
         }
     } else {
         match hear_command_at(rt, port, request, journal) {
             Ok(said) => said,
-            Err(why) => unanswered(rt.alloc(), room, port, request, why),
+            Err(why) => unanswered(rt.alloc(), port, request, why),
         }
     }
 }
@@ -364,14 +358,12 @@ fn answer_request_at(
 /// Answers `import`, whose journal's bytes these are, by what a service replies. `source` names the journal.
 fn answer_bytes_at(
     rt: &HostRuntime,
-    room: Vec<u8>,
     port: u16,
     branch: &str,
     source: &str,
     terms: Terms,
     journal: &[u8],
 ) -> Said
-    requires { IsRoom room }
     ensures { SaysToBytesAt branch.now terms journal.now (spoken result) }
 {
     let alloc = rt.alloc();
@@ -381,57 +373,49 @@ fn answer_bytes_at(
         Ok(text) => text,
         Err(_) => {
             let reason = sentence(Cause::OutOfMemory);
-            return refused(alloc, room, Cause::OutOfMemory, source, reason);
+            return refused(alloc, Cause::OutOfMemory, source, reason);
         }
     };
     match import_of(alloc, branch, text) {
         Ok(request) => {
             let spelled = Spelled { request, terms };
-            let said = answer_request_at(rt, room, port, &spelled, Some(shown.as_slice()));
+            let said = answer_request_at(rt, port, &spelled, Some(shown.as_slice()));
             with_own_lines(alloc, said, journal)
         }
-        Err(cause) => refused(alloc, room, cause, source, sentence(cause)),
+        Err(cause) => refused(alloc, cause, source, sentence(cause)),
     }
 }
 
 /// Answers `import` by what a service replies: the journal's file is read here, before anything is sent.
-fn answer_import_at(rt: &HostRuntime, room: Vec<u8>, port: u16, values: &ArgMatches<'_>) -> Said
-    requires { IsRoom room }
+fn answer_import_at(rt: &HostRuntime, port: u16, values: &ArgMatches<'_>) -> Said
     ensures { SaysToImportAt (rows_of (found_of values.now)) (spoken result) }
 {
     let alloc = rt.alloc();
     let Some(branch) = value_of(values, "branch") else {
-        return lacking(alloc, room, "import");
+        return lacking(alloc, "import");
     };
     let Some(journal) = value_of(values, "journal") else {
-        return lacking(alloc, room, "import");
+        return lacking(alloc, "import");
     };
     if says_no_count(values) {
         let reason = fault_of("import", values);
-        return refused(alloc, room, Cause::Request, "import", reason);
+        return refused(alloc, Cause::Request, "import", reason);
     }
     let file = match fs::open(rt, journal) {
         Ok(file) => file,
-        Err(_) => return refused(alloc, room, Cause::ReadFault, journal, UNREAD),
+        Err(_) => return refused(alloc, Cause::ReadFault, journal, UNREAD),
     };
     match read_journal(alloc, file) {
         Ok(bytes) => {
             let bytes = bytes.as_slice();
-            answer_bytes_at(rt, room, port, branch, journal, terms_of(values), bytes)
+            answer_bytes_at(rt, port, branch, journal, terms_of(values), bytes)
         }
-        Err(cause) => refused(alloc, room, cause, journal, UNREAD),
+        Err(cause) => refused(alloc, cause, journal, UNREAD),
     }
 }
 
 /// Answers the word of a command or a report, `import` aside, by what a service replies.
-fn answer_form_at(
-    rt: &HostRuntime,
-    room: Vec<u8>,
-    port: u16,
-    word: &str,
-    values: &ArgMatches<'_>,
-) -> Said
-    requires { IsRoom room }
+fn answer_form_at(rt: &HostRuntime, port: u16, word: &str, values: &ArgMatches<'_>) -> Said
     ensures { SaysToFormAt word.now (rows_of (found_of values.now)) (spoken result) }
 {
     let alloc = rt.alloc();
@@ -441,14 +425,14 @@ fn answer_form_at(
                 request,
                 terms: terms_of(values),
             };
-            answer_request_at(rt, room, port, &spelled, None)
+            answer_request_at(rt, port, &spelled, None)
         }
         Err(cause) => {
             let reason = match cause {
                 Cause::Request => fault_of(word, values),
                 _ => sentence(cause),
             };
-            refused(alloc, room, cause, word, reason)
+            refused(alloc, cause, word, reason)
         }
     }
 }
@@ -457,16 +441,15 @@ fn answer_form_at(
 ///
 /// The faults come in this order: 44; for `import` the journal's 45; 45 where there is no whole reply; then those of
 /// the request.
-pub fn answer_at(rt: &HostRuntime, room: Vec<u8>, word: &str, values: &ArgMatches<'_>) -> Said
-    requires { IsRoom room }
+pub fn answer_at(rt: &HostRuntime, word: &str, values: &ArgMatches<'_>) -> Said
     ensures { SaysAt word.now (rows_of (found_of values.now)) (spoken result) }
 {
     let Some(port) = port_of(values) else {
-        return lacking(rt.alloc(), room, word);
+        return lacking(rt.alloc(), word);
     };
     if word == "import" {
-        answer_import_at(rt, room, port, values)
+        answer_import_at(rt, port, values)
     } else {
-        answer_form_at(rt, room, port, word, values)
+        answer_form_at(rt, port, word, values)
     }
 }

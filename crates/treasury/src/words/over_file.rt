@@ -2,6 +2,7 @@
 
 ghost use Rattle.std.specs.Prelude.{◌≡◌, IfOk};
 ghost use Rattle.std.specs.Result.{IsOkUnless};
+ghost use Rattle.std.specs.Cow.{cow_slice_items};
 ghost use Rattle.clap.specs.Matches.{found_of};
 ghost use Rattle.clap.specs.Walk.{rows_of};
 ghost use Rattle.sqlite_wal.specs.Recovery.{Image};
@@ -10,10 +11,9 @@ ghost use Rattle.treasury_requests.specs.declared.request.Request.TheVariants.{I
 ghost use Rattle.treasury_requests.specs.Request.{HasDayNumbers};
 ghost use Rattle.treasury_api.specs.Left.{LeavesRequest};
 ghost use Rattle.treasury_files.specs.declared.left.Left.TheVariants.{Untouched};
-ghost use Rattle.treasury_files.specs.Left.{KeepsFile};
 ghost use Rattle.treasury.specs.Word.{SaysTo};
 ghost use Rattle.treasury.specs.OverFile.{IsRefusedBy, SaysToInit, SaysOver, SaysToJournal, SaysToWord};
-ghost use Rattle.treasury.specs.OverFileParts.{spoken, IsRoom, IsClosedOrShut, SaysToImport, SaysToForm};
+ghost use Rattle.treasury.specs.OverFileParts.{spoken, IsClosedOrShut, SaysToImport, SaysToForm};
 ghost use Rattle.treasury_files.specs.Started.{IsStarted, cause_of_why};
 
 use crate::words::at::answer_at;
@@ -23,9 +23,10 @@ use money_core::{Cause, Text};
 use sqlite::{Alter, FileFrom, FileStore, Start};
 use sqlite_disk::Disk;
 use std::alloc::Global;
+use std::borrow::CowSlice;
 use std::fs;
 use std::io::Read;
-use treasury_api::{Form, Grounds, answer_ahead, refuse, room_for_line, said_beside};
+use treasury_api::{Form, Grounds, answer_ahead, refuse, said_beside};
 use treasury_files::{
     Left, UNCLOSED, Unopened, Unserved, close_treasury, make_tables, open_treasury, read_journal,
 };
@@ -52,31 +53,29 @@ fn before<D: Disk>(said: Said) -> Answered<D>
 }
 
 /// Said where a file serves no word.
-pub fn refused_file(alloc: Global, room: Vec<u8>, path: &str, unopened: Unopened) -> Said
-    requires { IsRoom room }
+pub fn refused_file(alloc: Global, path: &str, unopened: Unopened) -> Said
     ensures { IsRefusedBy (cause_of_why unopened) (spoken result) }
 {
     match unopened {
         Unopened::NoMemory => {
             let reason = sentence(Cause::OutOfMemory);
-            refused(alloc, room, Cause::OutOfMemory, path, reason)
+            refused(alloc, Cause::OutOfMemory, path, reason)
         }
-        Unopened::Unusable(reason) => refused(alloc, room, Cause::Store, path, reason),
-        Unopened::NoTreasury(reason) => refused(alloc, room, Cause::Damaged, path, reason),
-        Unopened::OtherVersion(version) => refused_version(alloc, room, path, version),
+        Unopened::Unusable(reason) => refused(alloc, Cause::Store, path, reason),
+        Unopened::NoTreasury(reason) => refused(alloc, Cause::Damaged, path, reason),
+        Unopened::OtherVersion(version) => refused_version(alloc, path, version),
         Unopened::Strange(told) => {
             let reason = match str::from_utf8(told.as_slice()) {
                 Ok(reason) => reason,
                 Err(_) => sentence(Cause::Damaged),
             };
-            refused(alloc, room, Cause::Damaged, path, reason)
+            refused(alloc, Cause::Damaged, path, reason)
         }
     }
 }
 
 /// Said where the tables of a file are of another version, or are not those of the version that they name.
-fn refused_version(alloc: Global, room: Vec<u8>, path: &str, version: i64) -> Said
-    requires { IsRoom room }
+fn refused_version(alloc: Global, path: &str, version: i64) -> Said
     ensures { IsRefusedBy Cause.Damaged (spoken result) }
 {
     let reason = match version {
@@ -88,10 +87,9 @@ fn refused_version(alloc: Global, room: Vec<u8>, path: &str, version: i64) -> Sa
         ),
     };
     match reason {
-        Ok(reason) => refused(alloc, room, Cause::Damaged, path, reason.as_str()),
+        Ok(reason) => refused(alloc, Cause::Damaged, path, reason.as_str()),
         Err(_) => refused(
             alloc,
-            room,
             Cause::Damaged,
             path,
             "the tables are of another version",
@@ -100,25 +98,23 @@ fn refused_version(alloc: Global, room: Vec<u8>, path: &str, version: i64) -> Sa
 }
 
 /// Said where a value is not given that the word has to have. The words that are taken have them all.
-pub fn lacking(alloc: Global, room: Vec<u8>, word: &str) -> Said
-    requires { IsRoom room }
+pub fn lacking(alloc: Global, word: &str) -> Said
     ensures { IsRefusedBy Cause.Request (spoken result) }
 {
-    refused(alloc, room, Cause::Request, word, sentence(Cause::Request))
+    refused(alloc, Cause::Request, word, sentence(Cause::Request))
 }
 
 /// What a treasury answers to the request of a word: as to a line of `run`, but a report has no `ok` after its lines.
 /// `source` names the journal.
 pub fn answer_word<S: Alter>(
     alloc: Global,
-    room: Vec<u8>,
     request: &Spelled,
     source: &str,
     treasury: &mut Treasury<S>,
 ) -> Said
-    requires room { IsRoom room }
-    requires days { HasDayNumbers request.now.request }
-    ensures says { SaysTo S.Store treasury.old request.now result.answer.items result.is_refused treasury.new }
+    requires { HasDayNumbers request.now.request }
+    ensures says { SaysTo S.Store treasury.old request.now (cow_slice_items result.answer) result.is_refused
+        treasury.new }
     ensures left { LeavesRequest S.Store treasury.old treasury.new request.now }
 {
     let mut text = Vec::new(alloc);
@@ -126,7 +122,7 @@ pub fn answer_word<S: Alter>(
     let added = &mut grounds.added;
     match answer_ahead(alloc, Form::Text, request, treasury, &mut text, added) {
         Ok(()) => Said {
-            answer: text,
+            answer: CowSlice::Owned(text),
             reason: said_beside(alloc, treasury.state(), request, source, &grounds, None),
             is_refused: false,
         },
@@ -134,7 +130,7 @@ pub fn answer_word<S: Alter>(
             let state = treasury.state();
             let reason = said_beside(alloc, state, request, source, &grounds, Some(&refusal));
             Said {
-                answer: refuse(alloc, treasury, refusal, room),
+                answer: refuse(alloc, treasury, refusal),
                 reason,
                 is_refused: true,
             }
@@ -142,70 +138,44 @@ pub fn answer_word<S: Alter>(
     }
 }
 
-/// What is left of the file of a treasury of which nothing was asked. It is closed, where it can be.
-fn left_unasked<D: Disk + Drop>(treasury: Treasury<FileStore<D>>) -> Left<D>
-    ensures keeps { (image : Image) → IsStarted D.Disk image treasury → KeepsFile D.Disk image result }
-    ensures touched { IsClosedOrShut result }
-{
-    match close_treasury(treasury) {
-        Ok(files) => Left::Closed(files),
-        Err(store) => Left::Shut(store),
-    }
-}
-
 /// Answers the request of a word on the treasury of a file, and closes the file.
 ///
-/// Where it cannot be closed, it answers 41: what the request asks for is done then, or it is not. Where there is no
-/// memory to say so, nothing is asked, and it answers 40.
+/// Where it cannot be closed, it answers 41: what the request asks for is done then, or it is not.
 fn answer_on_file<D: Disk + Drop>(
     alloc: Global,
-    room: Vec<u8>,
     path: &str,
     request: &Spelled,
     source: &str,
     treasury: Treasury<FileStore<D>>,
 ) -> Answered<D>
-    requires room { IsRoom room }
-    requires days { HasDayNumbers request.now.request }
+    requires { HasDayNumbers request.now.request }
     ensures says { (image : Image) → IsStarted D.Disk image treasury
         → SaysOver D.Disk image request.now (spoken result.said) result.left }
     // What is handed back is what was closed, or could not be.
     ensures touched { IsClosedOrShut result.left }
 {
-    let Ok(spare) = room_for_line(alloc) else {
-        return Answered {
-            said: refused_file(alloc, room, path, Unopened::NoMemory),
-            left: left_unasked(treasury),
-        };
-    };
     let mut treasury = treasury;
-    let said = answer_word(alloc, room, request, source, &mut treasury);
+    let said = answer_word(alloc, request, source, &mut treasury);
     match close_treasury(treasury) {
         Ok(files) => Answered {
             said,
             left: Left::Closed(files),
         },
         Err(store) => Answered {
-            said: refused_file(alloc, spare, path, Unopened::Unusable(UNCLOSED)),
+            said: refused_file(alloc, path, Unopened::Unusable(UNCLOSED)),
             left: Left::Shut(store),
         },
     }
 }
 
 /// Said where a file serves no word, and what is left of it.
-fn refused_by<D: Disk>(
-    alloc: Global,
-    room: Vec<u8>,
-    path: &str,
-    unserved: Unserved<D>,
-) -> Answered<D>
-    requires { IsRoom room }
+fn refused_by<D: Disk>(alloc: Global, path: &str, unserved: Unserved<D>) -> Answered<D>
     ensures refused { IsRefusedBy (cause_of_why unserved.why) (spoken result.said) }
     ensures left { result.left ≡ unserved.left }
 {
     let Unserved { why, left } = unserved;
     Answered {
-        said: refused_file(alloc, room, path, why),
+        said: refused_file(alloc, path, why),
         left,
     }
 }
@@ -213,19 +183,17 @@ fn refused_by<D: Disk>(
 /// Answers the request of a word over a file.
 fn answer_request<S: Start>(
     rt: &HostRuntime,
-    room: Vec<u8>,
     path: &str,
     request: &Spelled,
     source: &str,
     start: S,
 ) -> Answered<FileFrom<S>>
-    requires room { IsRoom room }
-    requires days { HasDayNumbers request.now.request }
+    requires { HasDayNumbers request.now.request }
     ensures { SaysOver ⟦<FileFrom<S> as Disk>⟧ (image_at S.Start) request.now (spoken result.said) result.left }
 {
     match open_treasury(rt, path, start) {
-        Ok(treasury) => answer_on_file(rt.alloc(), room, path, request, source, treasury),
-        Err(refused) => refused_by(rt.alloc(), room, path, refused),
+        Ok(treasury) => answer_on_file(rt.alloc(), path, request, source, treasury),
+        Err(refused) => refused_by(rt.alloc(), path, refused),
     }
 }
 
@@ -245,7 +213,6 @@ pub(crate) fn import_of(alloc: Global, branch: &str, journal: Vec<u8>) -> Result
 /// Answers `import`, whose journal a reader has. `source` names the journal.
 fn answer_journal<R: Read + Drop, S: Start>(
     rt: &HostRuntime,
-    room: Vec<u8>,
     path: &str,
     branch: &str,
     source: &str,
@@ -253,7 +220,6 @@ fn answer_journal<R: Read + Drop, S: Start>(
     reader: R,
     start: S,
 ) -> Answered<FileFrom<S>>
-    requires { IsRoom room }
     ensures { SaysToJournal ⟦<FileFrom<S> as Disk>⟧ (image_at S.Start) branch.now terms (R.remaining reader)
         (spoken result.said) result.left }
 {
@@ -262,49 +228,47 @@ fn answer_journal<R: Read + Drop, S: Start>(
         Ok(bytes) => bytes,
         Err(cause) => {
             let reason = "the journal's file cannot be read";
-            return before(refused(alloc, room, cause, source, reason));
+            return before(refused(alloc, cause, source, reason));
         }
     };
     match import_of(alloc, branch, bytes) {
         Ok(request) => {
             let spelled = Spelled { request, terms };
-            answer_request(rt, room, path, &spelled, source, start)
+            answer_request(rt, path, &spelled, source, start)
         }
-        Err(cause) => before(refused(alloc, room, cause, source, sentence(cause))),
+        Err(cause) => before(refused(alloc, cause, source, sentence(cause))),
     }
 }
 
 /// Answers `import`: the journal's file is read before the database is opened.
 fn answer_import<S: Start>(
     rt: &HostRuntime,
-    room: Vec<u8>,
     path: &str,
     values: &ArgMatches<'_>,
     start: S,
 ) -> Answered<FileFrom<S>>
-    requires { IsRoom room }
     ensures { SaysToImport ⟦<FileFrom<S> as Disk>⟧ (image_at S.Start) (rows_of (found_of values.now))
         (spoken result.said) result.left }
 {
     let alloc = rt.alloc();
     let Some(branch) = value_of(values, "branch") else {
-        return before(lacking(alloc, room, "import"));
+        return before(lacking(alloc, "import"));
     };
     let Some(journal) = value_of(values, "journal") else {
-        return before(lacking(alloc, room, "import"));
+        return before(lacking(alloc, "import"));
     };
     if says_no_count(values) {
         let reason = fault_of("import", values);
-        return before(refused(alloc, room, Cause::Request, "import", reason));
+        return before(refused(alloc, Cause::Request, "import", reason));
     }
     match fs::open(rt, journal) {
         Ok(file) => {
             let terms = terms_of(values);
-            answer_journal(rt, room, path, branch, journal, terms, file, start)
+            answer_journal(rt, path, branch, journal, terms, file, start)
         }
         Err(_) => {
             let reason = "the journal's file cannot be read";
-            before(refused(alloc, room, Cause::ReadFault, journal, reason))
+            before(refused(alloc, Cause::ReadFault, journal, reason))
         }
     }
 }
@@ -312,13 +276,11 @@ fn answer_import<S: Start>(
 /// Answers the word of a command or a report, `init` and `import` aside.
 fn answer_form<S: Start>(
     rt: &HostRuntime,
-    room: Vec<u8>,
     path: &str,
     word: &str,
     values: &ArgMatches<'_>,
     start: S,
 ) -> Answered<FileFrom<S>>
-    requires { IsRoom room }
     ensures { SaysToForm ⟦<FileFrom<S> as Disk>⟧ (image_at S.Start) word.now (rows_of (found_of values.now))
         (spoken result.said) result.left }
 {
@@ -329,7 +291,7 @@ fn answer_form<S: Start>(
                 request,
                 terms: terms_of(values),
             };
-            answer_request(rt, room, path, &spelled, "", start)
+            answer_request(rt, path, &spelled, "", start)
         }
         Err(cause) => {
             let reason = match cause {
@@ -337,7 +299,7 @@ fn answer_form<S: Start>(
                 _ => sentence(cause),
             };
             Answered {
-                said: refused(alloc, room, cause, word, reason),
+                said: refused(alloc, cause, word, reason),
                 left: Left::Untouched,
             }
         }
@@ -345,21 +307,15 @@ fn answer_form<S: Start>(
 }
 
 /// Answers `init`: makes the tables of a new treasury.
-fn answer_init<S: Start>(
-    rt: &HostRuntime,
-    room: Vec<u8>,
-    path: &str,
-    start: S,
-) -> Answered<FileFrom<S>>
-    requires { IsRoom room }
+fn answer_init<S: Start>(rt: &HostRuntime, path: &str, start: S) -> Answered<FileFrom<S>>
     ensures { SaysToInit ⟦<FileFrom<S> as Disk>⟧ (image_at S.Start) (spoken result.said) result.left }
 {
     match make_tables(rt, path, start) {
         Ok(files) => Answered {
-            said: done(rt.alloc(), room),
+            said: done(rt.alloc()),
             left: Left::Closed(files),
         },
-        Err(refused) => refused_by(rt.alloc(), room, path, refused),
+        Err(refused) => refused_by(rt.alloc(), path, refused),
     }
 }
 
@@ -369,23 +325,21 @@ fn answer_init<S: Start>(
 /// `run`.
 pub fn answer_over_file<S: Start>(
     rt: &HostRuntime,
-    room: Vec<u8>,
     word: &str,
     values: &ArgMatches<'_>,
     start: S,
 ) -> Answered<FileFrom<S>>
-    requires { IsRoom room }
     ensures { SaysToWord ⟦<FileFrom<S> as Disk>⟧ (image_at S.Start) word.now (rows_of (found_of values.now))
         (spoken result.said) result.left }
 {
     let Some(path) = value_of(values, "db") else {
-        return before(answer_at(rt, room, word, values));
+        return before(answer_at(rt, word, values));
     };
     if word == "init" {
-        return answer_init(rt, room, path, start);
+        return answer_init(rt, path, start);
     }
     if word == "import" {
-        return answer_import(rt, room, path, values, start);
+        return answer_import(rt, path, values, start);
     }
-    answer_form(rt, room, path, word, values, start)
+    answer_form(rt, path, word, values, start)
 }

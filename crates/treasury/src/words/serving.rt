@@ -11,7 +11,7 @@ ghost use Rattle.treasury_files.specs.declared.left.Left.TheVariants.{Untouched}
 ghost use Rattle.treasury.specs.declared.words.serving.Ending.TheVariants.{Changed};
 ghost use Rattle.treasury.specs.OverFile.{IsRefusedBy};
 ghost use Rattle.treasury.specs.Serving.{listening, silent, LacksValue};
-ghost use Rattle.treasury.specs.OverFileParts.{spoken, IsRoom, IsClosedOrLeft};
+ghost use Rattle.treasury.specs.OverFileParts.{spoken, IsClosedOrLeft};
 ghost use Rattle.treasury_files.specs.Started.{IsStarted, cause_of_why};
 ghost use Rattle.treasury.specs.ServingParts.{ends_unwritten, IsUnannounced, IsAnnounced, IsAnnouncedBy, ServesIfHeard};
 ghost use Rattle.treasury.specs.ServingParts.{SaysAtEnd, SaysServing};
@@ -24,6 +24,7 @@ use money_core::Cause;
 use sqlite::{Alter, FileFrom, FileStore, Start};
 use sqlite_disk::Disk;
 use std::alloc::Global;
+use std::borrow::CowSlice;
 use std::cell::Cell;
 use std::io::{self, Read, Write};
 use std::net::{TcpListener, TcpStream};
@@ -277,20 +278,19 @@ fn nothing(alloc: Global) -> Said
     ensures { spoken result ≡ silent }
 {
     Said {
-        answer: Vec::new(alloc),
+        answer: CowSlice::Borrowed(b""),
         reason: Vec::new(alloc),
         is_refused: false,
     }
 }
 
 /// Said where the port cannot be listened on, or a connection not be accepted.
-fn refused_port(alloc: Global, room: Vec<u8>, port: u16, reason: &str) -> Said
-    requires room { IsRoom room }
+fn refused_port(alloc: Global, port: u16, reason: &str) -> Said
     ensures { IsRefusedBy Cause.ReadFault (spoken result) }
 {
     match format!(in alloc; "{HOST}:{port}") {
-        Ok(address) => refused(alloc, room, Cause::ReadFault, address.as_str(), reason),
-        Err(_) => refused(alloc, room, Cause::ReadFault, HOST, reason),
+        Ok(address) => refused(alloc, Cause::ReadFault, address.as_str(), reason),
+        Err(_) => refused(alloc, Cause::ReadFault, HOST, reason),
     }
 }
 
@@ -307,15 +307,14 @@ fn is_changed(rt: &HostRuntime, watch: &Watch<'_>, ending: Ending) -> bool
 }
 
 /// Said once the file is closed.
-fn said_at_end(alloc: Global, room: Vec<u8>, port: u16, ending: Ending) -> Said
-    requires room { IsRoom room }
+fn said_at_end(alloc: Global, port: u16, ending: Ending) -> Said
     requires closed { ending ≢ Changed }
     ensures { SaysAtEnd ending (spoken result) }
 {
     match ending {
-        Ending::Unbound(reason) => refused_port(alloc, room, port, reason),
+        Ending::Unbound(reason) => refused_port(alloc, port, reason),
         Ending::Unaccepted(port) => {
-            refused_port(alloc, room, port, "a connection could not be accepted")
+            refused_port(alloc, port, "a connection could not be accepted")
         }
         Ending::Changed => unreachable!(),
         Ending::Unwritten => nothing(alloc),
@@ -327,13 +326,11 @@ fn said_at_end(alloc: Global, room: Vec<u8>, port: u16, ending: Ending) -> Said
 /// or its log is not as the service left it, it is left open, and nothing is written to either.
 fn serve_on_file<W: Write, D: Disk + Drop>(
     rt: &HostRuntime,
-    room: Vec<u8>,
     wanted: Wanted,
     watch: Watch<'_>,
     output: &mut W,
     treasury: Treasury<FileStore<D>>,
 ) -> Serving<D>
-    requires room { IsRoom room }
     ensures announced { IsAnnounced W.contents output.old output.new result.ending }
     ensures says { (image : Image) (values : List Row) → IsStarted D.Disk image treasury
         → SaysServing D.Disk image values result.ending (spoken result.said) result.left }
@@ -346,19 +343,19 @@ fn serve_on_file<W: Write, D: Disk + Drop>(
     if is_changed(rt, &watch, ending) {
         return Serving {
             ending: Some(ending),
-            said: refused_file(rt.alloc(), room, watch.file, Unopened::Unusable(CHANGED)),
+            said: refused_file(rt.alloc(), watch.file, Unopened::Unusable(CHANGED)),
             left: Left::Open(leave_treasury(treasury)),
         };
     }
     match close_treasury(treasury) {
         Ok(files) => Serving {
             ending: Some(ending),
-            said: said_at_end(rt.alloc(), room, wanted.port, ending),
+            said: said_at_end(rt.alloc(), wanted.port, ending),
             left: Left::Closed(files),
         },
         Err(store) => Serving {
             ending: Some(ending),
-            said: refused_file(rt.alloc(), room, watch.file, Unopened::Unusable(UNCLOSED)),
+            said: refused_file(rt.alloc(), watch.file, Unopened::Unusable(UNCLOSED)),
             left: Left::Shut(store),
         },
     }
@@ -376,8 +373,7 @@ fn unbegun<D: Disk>(said: Said) -> Serving<D>
 }
 
 /// What it comes to where the file serves no word.
-fn refused_by<D: Disk>(alloc: Global, room: Vec<u8>, path: &str, refused: Unserved<D>) -> Serving<D>
-    requires { IsRoom room }
+fn refused_by<D: Disk>(alloc: Global, path: &str, refused: Unserved<D>) -> Serving<D>
     ensures refused { IsRefusedBy (cause_of_why refused.why) (spoken result.said) }
     ensures left { result.left ≡ refused.left }
     ensures ending { result.ending ≡ None }
@@ -385,7 +381,7 @@ fn refused_by<D: Disk>(alloc: Global, room: Vec<u8>, path: &str, refused: Unserv
     let Unserved { why, left } = refused;
     Serving {
         ending: None,
-        said: refused_file(alloc, room, path, why),
+        said: refused_file(alloc, path, why),
         left,
     }
 }
@@ -422,32 +418,30 @@ fn wanted_of(values: &ArgMatches<'_>) -> Option<Wanted>
 /// another program changed it.
 pub fn serve_over_file<W: Write, S: Start>(
     rt: &HostRuntime,
-    room: Vec<u8>,
     values: &ArgMatches<'_>,
     output: &mut W,
     start: S,
 ) -> Serving<FileFrom<S>>
-    requires { IsRoom room }
     ensures announced { IsAnnounced W.contents output.old output.new result.ending }
     ensures says { SaysServing ⟦<FileFrom<S> as Disk>⟧ (image_at S.Start) (rows_of (found_of values.now)) result.ending
         (spoken result.said) result.left }
 {
     let Some(path) = value_of(values, "db") else {
-        return unbegun(lacking(rt.alloc(), room, "serve"));
+        return unbegun(lacking(rt.alloc(), "serve"));
     };
     let Some(wanted) = wanted_of(values) else {
-        return unbegun(lacking(rt.alloc(), room, "serve"));
+        return unbegun(lacking(rt.alloc(), "serve"));
     };
     let log = match log_beside(rt, path) {
         Ok(log) => log,
-        Err(refused) => return refused_by(rt.alloc(), room, path, refused),
+        Err(refused) => return refused_by(rt.alloc(), path, refused),
     };
     let mut watch = Watch::new(rt, path, log.as_str());
     match open_treasury(rt, path, start) {
         Ok(treasury) => {
             watch.left = watch.look_behind(rt);
-            serve_on_file(rt, room, wanted, watch, output, treasury)
+            serve_on_file(rt, wanted, watch, output, treasury)
         }
-        Err(refused) => refused_by(rt.alloc(), room, path, refused),
+        Err(refused) => refused_by(rt.alloc(), path, refused),
     }
 }

@@ -53,10 +53,7 @@ fn serve_line<W: Write, M: Machine, L: Listener>(
     if is_blank_text(line) {
         return Ok(());
     }
-    let text = match machine.answer(alloc, line, listener) {
-        Ok(text) => text,
-        Err(_) => return Err(Cause::OutOfMemory),
-    };
+    let text = machine.answer(alloc, line, listener);
     match write_whole(writer, text.as_slice()) {
         Ok(()) => {
             listener.end_line();

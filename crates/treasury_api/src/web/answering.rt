@@ -1,17 +1,16 @@
 //! What a treasury replies to a call.
 
-ghost use Rattle.std.specs.Prelude.{◌≡◌, ◌≤◌, [], Ok, Err, IfOk, OnErr, codes, option_map, vec_capacity};
+ghost use Rattle.std.specs.Prelude.{◌≡◌, ◌≤◌, [], Ok, Err, IfOk, OnErr, option_map, vec_capacity};
+ghost use Rattle.std.specs.Cow.{cow_slice_items};
 ghost use Rattle.std.specs.Result.{IsOkUnless};
-ghost use Rattle.book_core.specs.declared.refusal.Refusal.{Refusal as Refused};
 ghost use Rattle.treasury_requests.specs.Request.{HasDayNumbers, in_earnest};
-ghost use Rattle.treasury_api.specs.Answer.{answer_text};
 ghost use Rattle.treasury_api.specs.OneRequest.{RepliesAs, RepliesOn};
 ghost use Rattle.treasury_api.specs.WebReply.{status_of, form_of_reply};
 ghost use Rattle.treasury_api.specs.Web.{IsRefusal44, IsBodyIn, AnswersOn};
 ghost use Rattle.treasury_api.specs.WebServing.{IsUnaskedJson, code_of, IsSought, sought_of, SeeksDays, LeavesReplied};
 
 use crate::answering::{answer, answer_ahead};
-use crate::answers::{MOST_PLAIN, answer_line};
+use crate::plain::plain_line;
 use crate::running::refuse_by;
 use crate::telling::{Grounds, JOURNAL, said_beside};
 use crate::web::branch::is_command_of;
@@ -22,9 +21,10 @@ use crate::web::reply::Reply;
 use crate::web::status::{Status, status_of};
 use book_core::Refusal;
 use http_request::{Call, Form, Received};
-use money_core::{Cause, Items, Styles, Text};
+use money_core::{Cause, Items, Text};
 use sqlite::Alter;
 use std::alloc::Global;
+use std::borrow::CowSlice;
 use treasury_requests::{Given, Request, Spelled, Terms, Word, read_line, request_by};
 use treasury_store::Treasury;
 
@@ -112,96 +112,50 @@ fn sought_by(alloc: Global, call: Call) -> Result<Sought, Cause>
     }
 }
 
-/// The reply to a call that is foreign, or to a request that is no command of its branch, in room for a plain line.
-fn forbidden(room: Vec<u8>) -> Reply
-    requires empty { room.items ≡ [] }
-    requires room { MOST_PLAIN ≤ vec_capacity room }
-    ensures status { code_of result.status ≡ 403 }
+/// The reply by a line that takes no memory.
+fn plain_reply(status: Status, line: &'static [u8]) -> Reply
+    ensures status { result.status ≡ status }
     ensures form { result.form ≡ Form.Text }
-    ensures body { result.body.items ≡ codes "forbidden\n" }
+    ensures body { cow_slice_items result.body ≡ line.now }
 {
-    let mut body = room;
-    match body.extend_from_slice(b"forbidden\n") {
-        Ok(()) => {}
-        Err(_) => unreachable!(),
-    }
     Reply {
-        status: Status::Forbidden,
+        status,
         form: Form::Text,
-        body,
+        body: CowSlice::Borrowed(line),
     }
 }
 
-/// The reply to a call that has no route, in room for a plain line.
-fn not_found(room: Vec<u8>) -> Reply
-    requires empty { room.items ≡ [] }
-    requires room { MOST_PLAIN ≤ vec_capacity room }
-    ensures status { code_of result.status ≡ 404 }
-    ensures form { result.form ≡ Form.Text }
-    ensures body { result.body.items ≡ codes "not found\n" }
+/// The reply to a call that is no request, by 44. `body` is what spells none, if there is a body. Answers 40 where
+/// there is no memory for an object.
+fn no_request(alloc: Global, form: Form, body: Option<&[u8]>) -> Result<Reply, Cause>
+    ensures status { IfOk result (λ reply. code_of reply.status ≡ 400) }
+    ensures form { IfOk result (λ reply. reply.form ≡ form_of_reply form (code_of reply.status)) }
+    ensures body { IfOk result (λ reply. IsRefusal44 form (cow_slice_items reply.body)) }
+    ensures told { form ≡ Form.Json → IfOk result (λ reply.
+        IsUnaskedJson (option_map (λ b. b.now) body.entry) (cow_slice_items reply.body)) }
+    ensures memory { IsOkUnless result Cause.OutOfMemory }
 {
-    let mut body = room;
-    match body.extend_from_slice(b"not found\n") {
-        Ok(()) => {}
-        Err(_) => unreachable!(),
-    }
-    Reply {
-        status: Status::NotFound,
-        form: Form::Text,
-        body,
+    match form {
+        Form::Text => Ok(plain_reply(Status::BadRequest, plain_line(Cause::Request))),
+        Form::Json => {
+            let room = Vec::with_capacity(alloc, MOST_JSON)?;
+            let told = told_unasked(alloc, body);
+            let line = b"refused 44 Request";
+            let object = refuse_plain_in_json(line, Cause::Request, told.as_slice(), room);
+            Ok(Reply {
+                status: Status::BadRequest,
+                form: Form::Json,
+                body: CowSlice::Owned(object),
+            })
+        }
     }
 }
 
-/// The reply to a call that is no request, by 44, in room for a plain line.
-fn no_request(alloc: Global, room: Vec<u8>) -> Reply
-    requires empty { room.items ≡ [] }
-    requires room { MOST_PLAIN ≤ vec_capacity room }
-    ensures status { code_of result.status ≡ 400 }
+/// The reply to a request as text.
+fn answer_in_text<S: Alter>(alloc: Global, request: &Spelled, treasury: &mut Treasury<S>) -> Reply
+    requires { HasDayNumbers request.now.request }
     ensures form { result.form ≡ Form.Text }
-    ensures body { IsRefusal44 Form.Text result.body.items }
-{
-    let mut body = room;
-    let line = Err(Refusal::Plain(Cause::Request));
-    match answer_line(alloc, &line, &Styles::empty(alloc), &mut body) {
-        Ok(()) => {}
-        Err(_) => unreachable!(),
-    }
-    Reply {
-        status: Status::BadRequest,
-        form: Form::Text,
-        body,
-    }
-}
-
-/// The same in JSON, in room for a plain object. `body` is what spells no request, if there is a body.
-fn no_request_in_json(alloc: Global, body: Option<&[u8]>, room: Vec<u8>) -> Reply
-    requires empty { room.items ≡ [] }
-    requires room { MOST_JSON ≤ vec_capacity room }
-    ensures status { code_of result.status ≡ 400 }
-    ensures form { result.form ≡ Form.Json }
-    ensures body { IsRefusal44 Form.Json result.body.items }
-    ensures told { IsUnaskedJson (option_map (λ b. b.now) body.entry) result.body.items }
-{
-    let told = told_unasked(alloc, body);
-    Reply {
-        status: Status::BadRequest,
-        form: Form::Json,
-        body: refuse_plain_in_json(b"refused 44 Request", Cause::Request, told.as_slice(), room),
-    }
-}
-
-/// The reply to a request as text. `room` is for the line of a refusal.
-fn answer_in_text<S: Alter>(
-    alloc: Global,
-    request: &Spelled,
-    treasury: &mut Treasury<S>,
-    room: Vec<u8>,
-) -> Reply
-    requires days { HasDayNumbers request.now.request }
-    requires empty { room.items ≡ [] }
-    requires room { MOST_PLAIN ≤ vec_capacity room }
-    ensures form { result.form ≡ Form.Text }
-    ensures replies { RepliesOn S.Store treasury.old request.now result.body.items
+    ensures replies { RepliesOn S.Store treasury.old request.now (cow_slice_items result.body)
         (λ reply. code_of result.status ≡ status_of reply) treasury.new }
     ensures leaves { LeavesReplied S.Store treasury.old request.now (code_of result.status) treasury.new }
 {
@@ -210,10 +164,10 @@ fn answer_in_text<S: Alter>(
         Ok(()) => Reply {
             status: Status::Done,
             form: Form::Text,
-            body,
+            body: CowSlice::Owned(body),
         },
         Err(refusal) => {
-            let line = refuse_by(alloc, treasury, refusal, room);
+            let line = refuse_by(alloc, treasury, refusal);
             Reply {
                 status: status_of(line.cause),
                 form: Form::Text,
@@ -223,124 +177,73 @@ fn answer_in_text<S: Alter>(
     }
 }
 
-/// The reply to a request in JSON. `line` is for the line of a refusal, and `room` for the object of a plain answer.
+/// The reply to a request in JSON. Answers 40 where there is no room for an object; nothing has changed then.
 fn answer_in_json<S: Alter>(
     alloc: Global,
     request: &Spelled,
     treasury: &mut Treasury<S>,
-    line: Vec<u8>,
-    room: Vec<u8>,
-) -> Reply
-    requires days { HasDayNumbers request.now.request }
-    requires empty_line { line.items ≡ [] }
-    requires line { MOST_PLAIN ≤ vec_capacity line }
-    requires empty { room.items ≡ [] }
-    requires room { MOST_JSON ≤ vec_capacity room }
-    ensures form { result.form ≡ form_of_reply Form.Json (code_of result.status) }
-    ensures replies { RepliesAs S.Store treasury.old request.now (IsBodyIn Form.Json result.body.items request.now)
-        (λ reply. code_of result.status ≡ status_of reply) treasury.new }
-    ensures leaves { LeavesReplied S.Store treasury.old request.now (code_of result.status) treasury.new }
+) -> Result<Reply, Cause>
+    requires { HasDayNumbers request.now.request }
+    ensures form { IfOk result (λ reply. reply.form ≡ form_of_reply Form.Json (code_of reply.status)) }
+    ensures replies { IfOk result (λ reply. RepliesAs S.Store treasury.old request.now
+        (IsBodyIn Form.Json (cow_slice_items reply.body) request.now)
+        (λ r. code_of reply.status ≡ status_of r) treasury.new) }
+    ensures leaves { IfOk result (λ reply.
+        LeavesReplied S.Store treasury.old request.now (code_of reply.status) treasury.new) }
+    ensures err { OnErr result (treasury.new ≡ treasury.old) }
+    ensures memory { IsOkUnless result Cause.OutOfMemory }
 {
+    let room = match Vec::with_capacity(alloc, MOST_JSON) {
+        Ok(room) => room,
+        Err(_) => return Err(Cause::OutOfMemory),
+    };
     let mut text = Vec::new(alloc);
     let mut grounds = Grounds::before(treasury, &request.request);
     let added = &mut grounds.added;
     match answer_ahead(alloc, Form::Json, request, treasury, &mut text, added) {
-        Ok(()) => Reply {
+        Ok(()) => Ok(Reply {
             status: Status::Done,
             form: Form::Json,
-            body: done_in_json(alloc, request, treasury, &grounds, text, room),
-        },
+            body: CowSlice::Owned(done_in_json(alloc, request, treasury, &grounds, text, room)),
+        }),
         Err(refusal) => {
             let state = treasury.state();
             let told = said_beside(alloc, state, request, JOURNAL, &grounds, Some(&refusal));
             let entries = entries_told(state, request);
-            let line = refuse_by(alloc, treasury, refusal, line);
+            let line = refuse_by(alloc, treasury, refusal);
             let object = refuse_in_json(&line, told.as_slice(), entries, room);
-            Reply {
+            Ok(Reply {
                 status: status_of(object.cause),
                 form: Form::Json,
                 body: object.text,
-            }
+            })
         }
     }
 }
 
-/// The reply to a call, in room for a plain line that was made before. Answers 40 where there is no memory to read what
-/// is asked, or for the room of an object; nothing has changed then.
+/// The reply to a call. Answers 40 where there is no memory to read what is asked, or for the room of an object;
+/// nothing has changed then.
 pub fn answer_call<S: Alter>(
     alloc: Global,
     received: Received,
     treasury: &mut Treasury<S>,
-    room: Vec<u8>,
 ) -> Result<Reply, Cause>
-    requires empty { room.items ≡ [] }
-    requires room { MOST_PLAIN ≤ vec_capacity room }
     ensures ok { IfOk result (λ reply. AnswersOn S.Store treasury.old received.form received.call
-        (code_of reply.status) reply.body.items treasury.new) }
+        (code_of reply.status) (cow_slice_items reply.body) treasury.new) }
     ensures form { IfOk result (λ reply. reply.form ≡ form_of_reply received.form (code_of reply.status)) }
     ensures err { OnErr result (treasury.new ≡ treasury.old) }
     ensures memory { IsOkUnless result Cause.OutOfMemory }
 {
-    match received.form {
-        Form::Text => answer_call_in_text(alloc, received.call, treasury, room),
-        Form::Json => match Vec::with_capacity(alloc, MOST_JSON) {
-            Ok(object) => answer_call_in_json(alloc, received.call, treasury, room, object),
-            Err(_) => Err(Cause::OutOfMemory),
+    let form = received.form;
+    match sought_by(alloc, received.call) {
+        Ok(Sought::Request(request)) => match form {
+            Form::Text => Ok(answer_in_text(alloc, &request, treasury)),
+            Form::Json => answer_in_json(alloc, &request, treasury),
         },
-    }
-}
-
-/// The reply to a call as text, in room for a plain line.
-fn answer_call_in_text<S: Alter>(
-    alloc: Global,
-    call: Call,
-    treasury: &mut Treasury<S>,
-    room: Vec<u8>,
-) -> Result<Reply, Cause>
-    requires empty { room.items ≡ [] }
-    requires room { MOST_PLAIN ≤ vec_capacity room }
-    ensures ok { IfOk result (λ reply.
-        AnswersOn S.Store treasury.old Form.Text call (code_of reply.status) reply.body.items treasury.new) }
-    ensures form { IfOk result (λ reply. reply.form ≡ form_of_reply Form.Text (code_of reply.status)) }
-    ensures err { OnErr result (treasury.new ≡ treasury.old) }
-    ensures memory { IsOkUnless result Cause.OutOfMemory }
-{
-    match sought_by(alloc, call) {
-        Ok(Sought::Request(request)) => Ok(answer_in_text(alloc, &request, treasury, room)),
-        Ok(Sought::Forbidden) => Ok(forbidden(room)),
-        Ok(Sought::Nowhere) => Ok(not_found(room)),
-        Ok(Sought::Misspelled(_)) => Ok(no_request(alloc, room)),
-        Ok(Sought::NoRequest) => Ok(no_request(alloc, room)),
-        Err(cause) => Err(cause),
-    }
-}
-
-/// The reply to a call in JSON, in room for a plain line and for the object of a plain answer.
-fn answer_call_in_json<S: Alter>(
-    alloc: Global,
-    call: Call,
-    treasury: &mut Treasury<S>,
-    line: Vec<u8>,
-    room: Vec<u8>,
-) -> Result<Reply, Cause>
-    requires empty_line { line.items ≡ [] }
-    requires line { MOST_PLAIN ≤ vec_capacity line }
-    requires empty { room.items ≡ [] }
-    requires room { MOST_JSON ≤ vec_capacity room }
-    ensures ok { IfOk result (λ reply.
-        AnswersOn S.Store treasury.old Form.Json call (code_of reply.status) reply.body.items treasury.new) }
-    ensures form { IfOk result (λ reply. reply.form ≡ form_of_reply Form.Json (code_of reply.status)) }
-    ensures err { OnErr result (treasury.new ≡ treasury.old) }
-    ensures memory { IsOkUnless result Cause.OutOfMemory }
-{
-    match sought_by(alloc, call) {
-        Ok(Sought::Request(request)) => {
-            Ok(answer_in_json(alloc, &request, treasury, line, room))
-        }
-        Ok(Sought::Forbidden) => Ok(forbidden(line)),
-        Ok(Sought::Nowhere) => Ok(not_found(line)),
-        Ok(Sought::Misspelled(body)) => Ok(no_request_in_json(alloc, Some(body.items()), room)),
-        Ok(Sought::NoRequest) => Ok(no_request_in_json(alloc, None, room)),
+        Ok(Sought::Forbidden) => Ok(plain_reply(Status::Forbidden, b"forbidden\n")),
+        Ok(Sought::Nowhere) => Ok(plain_reply(Status::NotFound, b"not found\n")),
+        Ok(Sought::Misspelled(body)) => no_request(alloc, form, Some(body.items())),
+        Ok(Sought::NoRequest) => no_request(alloc, form, None),
         Err(cause) => Err(cause),
     }
 }

@@ -3,6 +3,7 @@
 ghost use Rattle.std.specs.Prelude.{◌≡◌, ◌⊎◌, ◌≤◌, ◌+◌, ◌-◌, ◌++◌, ℕ, List, [], true, false, length, take};
 ghost use Rattle.std.specs.Prelude.{vec_capacity};
 ghost use Rattle.std.specs.Prelude.{OnOk, OnErr, IsOk, IsTrue, IfSome, None, codes, decimal, option_map};
+ghost use Rattle.std.specs.Cow.{cow_slice_items};
 ghost use Rattle.std.specs.Str.{is_utf8};
 ghost use Rattle.json_text.specs.JsonText.{object_text};
 ghost use Rattle.json_text.specs.Members.{members_of};
@@ -21,6 +22,7 @@ use json_text::{Member, MemberValue, push_object};
 use money_core::Cause;
 use sqlite::Alter;
 use std::alloc::{AllocError, Global};
+use std::borrow::CowSlice;
 use treasury_core::State;
 use treasury_messages::{sentence, sentence_text, unasked_text};
 use treasury_requests::Spelled;
@@ -198,19 +200,6 @@ fn done_object(line: &[u8], noted: &[u8], entries: Option<usize>, room: Vec<u8>)
     }
 }
 
-/// The object of an answer that is no refusal, in room for a plain one, by its text, of at most 64 bytes.
-fn object_of(text: &[u8], noted: &[u8], entries: Option<usize>, room: Vec<u8>) -> Vec<u8>
-    requires empty { room.items ≡ [] }
-    requires room { MOST_JSON ≤ vec_capacity room }
-    ensures done { length text.now ≤ 64
-        → IsJsonDone (take (length text.now - 1) text.now) entries result.items }
-    ensures noted { length text.now ≤ 64
-        → IsJsonNoted (take (length text.now - 1) text.now) noted.now entries result.items }
-{
-    let line = line_of(text);
-    done_object(&line[..line.len().min(MOST_LINE)], noted, entries, room)
-}
-
 /// How many entries the branch has that a dry run is on, as far as the state is in memory.
 pub fn entries_told<L: Ledger>(state: Option<&State<L>>, request: &Spelled) -> Option<usize>
     ensures { result ≡ entries_told (option_map (λ s. s.now) state.entry) request.now }
@@ -222,8 +211,8 @@ pub fn entries_told<L: Ledger>(state: Option<&State<L>>, request: &Spelled) -> O
     }
 }
 
-/// The body of a reply in JSON to a request that is not refused, and was answered by this text. `room` is for the
-/// object of a plain answer. A report's object is its text.
+/// The body of a reply in JSON to a request that is not refused, and was answered by this text, in room for the object
+/// of a plain answer. A report's object is its text.
 pub fn done_in_json<S: Alter>(
     alloc: Global,
     request: &Spelled,
@@ -232,14 +221,15 @@ pub fn done_in_json<S: Alter>(
     text: Vec<u8>,
     room: Vec<u8>,
 ) -> Vec<u8>
+    requires short { is_report request.now.request ≡ false → length text.items ≤ 64 }
     requires empty { room.items ≡ [] }
     requires room { MOST_JSON ≤ vec_capacity room }
     ensures report { IsTrue (is_report request.now.request) → result.items ≡ text.items }
-    ensures other { is_report request.now.request ≡ false → length text.items ≤ 64
+    ensures other { is_report request.now.request ≡ false
         → IsJsonDone (take (length text.items - 1) text.items) (entries_told treasury.now.held request.now)
         result.items }
     // Its notes are those of the request, which says of what journal it is by the key.
-    ensures noted { is_report request.now.request ≡ false → length text.items ≤ 64 → (noted : List ℕ)
+    ensures noted { is_report request.now.request ≡ false → (noted : List ℕ)
         × IsSaidBeside treasury.now.held request.now JOURNAL.now grounds.now None noted
         × IsJsonNoted (take (length text.items - 1) text.items) noted (entries_told treasury.now.held request.now)
         result.items }
@@ -249,7 +239,7 @@ pub fn done_in_json<S: Alter>(
     }
     let noted = said_beside(alloc, treasury.state(), request, JOURNAL, grounds, None);
     let entries = entries_told(treasury.state(), request);
-    object_of(text.as_slice(), noted.as_slice(), entries, room)
+    done_object(line_of(text.as_slice()), noted.as_slice(), entries, room)
 }
 
 /// Appends the object of a refusal, by its line, its cause, what is told, and the entries of its branch; nothing is
@@ -295,23 +285,25 @@ pub fn refuse_plain_in_json(line: &[u8], cause: Cause, told: &[u8], room: Vec<u8
 pub fn refuse_in_json(line: &Line, told: &[u8], entries: Option<usize>, room: Vec<u8>) -> Line
     requires empty { room.items ≡ [] }
     requires room { MOST_JSON ≤ vec_capacity room }
-    ensures refused { IsJsonRefusal line.now.text.items line.now.cause entries result.cause result.text.items }
-    ensures told { IsJsonToldOf line.now.text.items line.now.cause told.now entries result.cause result.text.items }
+    ensures refused { IsJsonRefusal (cow_slice_items line.now.text) line.now.cause entries result.cause
+        (cow_slice_items result.text) }
+    ensures told { IsJsonToldOf (cow_slice_items line.now.text) line.now.cause told.now entries result.cause
+        (cow_slice_items result.text) }
 {
     let mut text = room;
-    match push_refused_at_least(
-        line_of(line.text.as_slice()),
-        line.cause,
-        told,
-        entries,
-        &mut text,
-    ) {
+    let named = line_of(line.text.as_slice());
+    match push_refused_at_least(named, line.cause, told, entries, &mut text) {
         Ok(()) => Line {
-            text,
+            text: CowSlice::Owned(text),
             cause: line.cause,
         },
         Err(_) => Line {
-            text: refuse_plain_in_json(b"refused 40 OutOfMemory", Cause::OutOfMemory, b"", text),
+            text: CowSlice::Owned(refuse_plain_in_json(
+                b"refused 40 OutOfMemory",
+                Cause::OutOfMemory,
+                b"",
+                text,
+            )),
             cause: Cause::OutOfMemory,
         },
     }

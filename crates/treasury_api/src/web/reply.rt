@@ -2,6 +2,7 @@
 
 ghost use Rattle.std.specs.Prelude.{◌≡◌, ◌≤◌, ◌<◌, ◌+◌, ◌++◌, ℕ, [], length, take, vec_capacity, OnOk, OnErr};
 ghost use Rattle.std.specs.Prelude.{IfErr, IsOk};
+ghost use Rattle.std.specs.Cow.{cow_slice_items};
 ghost use Rattle.std.specs.Io.KnownBytes.{Appends};
 ghost use Rattle.treasury_api.specs.WebReply.{type_of, reply_head, whole_reply};
 ghost use Rattle.treasury_api.specs.WebServing.{code_of};
@@ -13,6 +14,7 @@ use http_request::Form;
 use itoa::Buffer;
 use money_core::Cause;
 use std::alloc::AllocError;
+use std::borrow::CowSlice;
 use std::io::Write;
 
 /// The head of a reply has at most that many bytes.
@@ -23,7 +25,7 @@ pub const MAX_REPLY_HEAD: usize = 192;
 pub struct Reply {
     pub status: Status,
     pub form: Form,
-    pub body: Vec<u8>,
+    pub body: CowSlice<'static, u8>,
 }
 
 /// The type of a body.
@@ -71,11 +73,11 @@ pub fn write_reply<W: Write>(reply: &Reply, room: Vec<u8>, writer: &mut W) -> Re
     requires empty { room.items ≡ [] }
     requires room { MAX_REPLY_HEAD ≤ vec_capacity room }
     ensures ok { OnOk result (Appends (W.contents writer.old) (W.contents writer.new)
-        (whole_reply reply.now.form (code_of reply.now.status) reply.now.body.items)) }
+        (whole_reply reply.now.form (code_of reply.now.status) (cow_slice_items reply.now.body))) }
     ensures err { IfErr result (λ cause. (cause ≡ Cause.WriteFault) × ((taken : ℕ)
-        × (taken < length (whole_reply reply.now.form (code_of reply.now.status) reply.now.body.items))
+        × (taken < length (whole_reply reply.now.form (code_of reply.now.status) (cow_slice_items reply.now.body)))
         × Appends (W.contents writer.old) (W.contents writer.new)
-        (take taken (whole_reply reply.now.form (code_of reply.now.status) reply.now.body.items)))) }
+        (take taken (whole_reply reply.now.form (code_of reply.now.status) (cow_slice_items reply.now.body))))) }
 {
     let mut head = room;
     match push_head(reply.status, reply.form, reply.body.len(), &mut head) {

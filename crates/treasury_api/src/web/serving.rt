@@ -1,12 +1,11 @@
 //! A connection, served.
 //!
 //! There is one call to a connection, so there is no loop to prove apart from what answers it. Memory for the head of
-//! a reply and a short line is reserved before anything is read, and nothing grows after a commit: what was done is
-//! always reported. If memory runs out before a call is understood, the connection ends without a reply.
+//! a reply is reserved before anything is read, and nothing has to grow after a commit: what was done is always
+//! reported. If memory runs out before a call is understood, the connection ends without a reply.
 
 ghost use Rattle.treasury_api.specs.Web.{ServesOne};
 
-use crate::answers::room_for_line;
 use crate::web::answering::answer_call;
 use crate::web::reply::{MAX_REPLY_HEAD, write_reply};
 use http_request::read_call;
@@ -36,15 +35,11 @@ pub fn serve_one<R: Read, W: Write, S: Alter>(
         Ok(head) => head,
         Err(_) => return Err(Cause::OutOfMemory),
     };
-    let line = match room_for_line(alloc) {
-        Ok(line) => line,
-        Err(_) => return Err(Cause::OutOfMemory),
-    };
     let received = match read_call(alloc, reader) {
         Ok(received) => received,
         Err(cause) => return Err(cause),
     };
-    let reply = match answer_call(alloc, received, treasury, line) {
+    let reply = match answer_call(alloc, received, treasury) {
         Ok(reply) => reply,
         Err(cause) => return Err(cause),
     };

@@ -1,23 +1,20 @@
 use Rattle.std.proofs.Common.{refl, inl, inr}
-use Rattle.treasury.specs.OverFile.{has_no_memory, cannot_be_used, is_answered}
+use Rattle.std.specs.Cow.{cow_slice_items}
+use Rattle.treasury.specs.OverFile.{cannot_be_used, is_answered}
 use Rattle.treasury.proofs.OverFileLemmas.{answers_over, may_have_done}
 use Rattle.treasury.proofs.words.over_file.answer_on_file.Goals as goal
-
-pub returns-in_default-clause-says : goal.returns-in_default-clause-says
-returns-in_default-clause-says g c =
-    λ image started. has_no_memory c.refused_file.ensures (c.left_unasked.ensures.keeps image started)
 
 pub returns-in-Ok-close_treasury-clause-says : goal.returns-in-Ok-close_treasury-clause-says
 returns-in-Ok-close_treasury-clause-says g c = λ image started.
     is_answered (answers_over _ image c.args.request.now c.args.treasury c.answer_word-said.new.treasury
-    c.answer_word-said.result.answer.items c.answer_word-said.result.is_refused c.in-Ok-close_treasury.files
+    (cow_slice_items c.answer_word-said.result.answer) c.answer_word-said.result.is_refused c.in-Ok-close_treasury.files
     started c.answer_word-said.ensures.says c.in-Ok-close_treasury.ensures)
 
 pub returns-in-Err-clause-says : goal.returns-in-Err-clause-says
 returns-in-Err-clause-says g c = λ image started.
-    cannot_be_used c.refused_file-in-Err.ensures
+    cannot_be_used c.refused_file.ensures
     (may_have_done _ g.met.D.Disk.seen_may_stay image c.args.request.now c.args.treasury
-    c.answer_word-said.new.treasury c.answer_word-said.result.answer.items
+    c.answer_word-said.new.treasury (cow_slice_items c.answer_word-said.result.answer)
     c.answer_word-said.result.is_refused c.in-Err.store started c.answer_word-said.ensures.says
     c.answer_word-said.ensures.left c.in-Err.ensures)
 

@@ -10,7 +10,7 @@ pub returns-in-Ok-clause-says : goal.returns-in-Ok-clause-says
 returns-in-Ok-clause-says g c =
     said_done g.S.Store c.args.treasury.now c.answer_ahead.new.treasury c.answer_ahead.new.out.items c.args.request.now
     (λ (reply : Result Answer Refusal). false ≡ is_refusal reply) c.answer_ahead.result c.in-Ok.field-0 c.in-Ok.is
-    c.requires.days c.answer_ahead.ensures.database.shuts.clean
+    c.requires c.answer_ahead.ensures.database.shuts.clean
     (λ k f of. subst (λ (xs : List ℕ).
     IsAnswered g.S.Store c.args.treasury.now.store.failed c.answer_ahead.new.treasury f c.args.request.now
     c.answer_ahead.result
@@ -22,7 +22,7 @@ returns-in-Err-clause-says g c =
     said_refusal g.S.Store c.args.treasury.now c.answer_ahead.new.treasury c.answer_ahead.new.out.items _
     c.args.request.now
     (λ (reply : Result Answer Refusal). true ≡ is_refusal reply) c.answer_ahead.result c.in-Err.refusal c.in-Err.is
-    c.requires.days c.answer_ahead.ensures.database.shuts.clean
+    c.requires c.answer_ahead.ensures.database.shuts.clean
     (λ k f of. subst (λ (xs : List ℕ).
     IsAnswered g.S.Store c.args.treasury.now.store.failed c.answer_ahead.new.treasury f c.args.request.now
     c.answer_ahead.result
