@@ -13,7 +13,7 @@ _treasury() {
     import) takes="db=FILE at= branch= dry-run if-entries= help =FILE" ;;
     accounts) takes="db=FILE at= branch= help" ;;
     balance) takes="db=FILE at= branch= day= help" ;;
-    register) takes="db=FILE at= branch= account= tag= help" ;;
+    register) takes="db=FILE at= branch= account= tag= from= help" ;;
     dispatch) takes="db=FILE at= id= from= to= day= amount= account= dry-run if-entries= help" ;;
     receive) takes="db=FILE at= id= branch= day= account= part= amount= dry-run if-entries= help" ;;
     transfers) takes="db=FILE at= day= help" ;;

@@ -33,7 +33,7 @@ __treasury commodities "Reports the commodities, by their samples" db=FILE at= h
 __treasury import "Enters a journal's new transactions into a branch's book" db=FILE at= branch= dry-run if-entries= help =FILE
 __treasury accounts "Reports the accounts of a branch's entries" db=FILE at= branch= help
 __treasury balance "Reports a branch's balances through a day" db=FILE at= branch= day= help
-__treasury register "Reports an account's postings with running sums" db=FILE at= branch= account= tag= help
+__treasury register "Reports an account's postings with running sums" db=FILE at= branch= account= tag= from= help
 __treasury dispatch "Sends money from one branch to another" db=FILE at= id= from= to= day= amount= account= dry-run if-entries= help
 __treasury receive "Receives the money of a transfer in a branch" db=FILE at= id= branch= day= account= part= amount= dry-run if-entries= help
 __treasury transfers "Reports the transfers of which something is open through a day" db=FILE at= day= help

@@ -10,7 +10,7 @@ local -a rows=(
     "import db=FILE at= branch= dry-run if-entries= help =FILE:Enters a journal's new transactions into a branch's book"
     "accounts db=FILE at= branch= help:Reports the accounts of a branch's entries"
     "balance db=FILE at= branch= day= help:Reports a branch's balances through a day"
-    "register db=FILE at= branch= account= tag= help:Reports an account's postings with running sums"
+    "register db=FILE at= branch= account= tag= from= help:Reports an account's postings with running sums"
     "dispatch db=FILE at= id= from= to= day= amount= account= dry-run if-entries= help:Sends money from one branch to another"
     "receive db=FILE at= id= branch= day= account= part= amount= dry-run if-entries= help:Receives the money of a transfer in a branch"
     "transfers db=FILE at= day= help:Reports the transfers of which something is open through a day"

@@ -93,7 +93,7 @@ def call_of(item, line, is_plain=False):
     end = ("" if is_plain else ODD["accepts"][sum(line) % len(ODD["accepts"])]).encode("latin-1")
     if isinstance(item, dict) and item.get("do") in PATHS and len(line) % 2:
         parts = [item.get(key) or "?" for key in PATHS[item["do"]]]
-        query = [(key, item[key]) for key in ("tag", "account") if item["do"] == "register" and key in item]
+        query = [(key, item[key]) for key in ("tag", "account", "from") if item["do"] == "register" and key in item]
         if all(re.fullmatch("[a-z0-9-]+", part) for part in parts) and len(item) == len(parts) + len(query) + 1:
             target = "/".join([item["do"], *parts]) + "?" * bool(query)
             target += urlencode(query, quote_via=quote, safe="", errors="surrogateescape")

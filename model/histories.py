@@ -458,9 +458,10 @@ class History:
         rng, do = self.rng, self.rng.choice(list(REPORTS))
         day = self.text(self.day() if self.chance(0.9) else rng.choice((LAST_DAY, -719162)))
         accounts = ("assets", "expenses", "equity:conversion", "a", "assets:transit", self.account())
-        values = {"branch": self.branch_name(), "day": day, "account": rng.choice(accounts), "tag": odd(rng, "tags")}
+        values = {"branch": self.branch_name(), "day": day, "account": rng.choice(accounts), "tag": odd(rng, "tags"),
+                  "from": day}
         needed, further = REPORTS[do]
-        keys = needed + (further if self.chance(0.6) else [])
+        keys = needed + [key for key in further if self.chance(0.6)]
         self.ask(self.spoiled({"do": do, **{key: values[key] for key in keys}}))
 
     def earlier(self, count, kinds=None):

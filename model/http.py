@@ -5,7 +5,7 @@ from collections import namedtuple
 
 from model.json_replies import asks_for_json, body_of
 from model.refusals import Refused, refuse_if
-from model.requests import BRANCH_COMMANDS, read_day, read_request
+from model.requests import BRANCH_COMMANDS, read_days, read_request
 
 TEXT, FORBIDDEN = "text/plain; charset=utf-8", ("403 Forbidden", "forbidden\n")
 MAX_HEAD, MAX_HEADERS, MAX_BODY = 16_384, 32, 8_388_608
@@ -148,7 +148,7 @@ def read_query(query):
     pairs = [piece.partition("=") for piece in query.split("&")]
     refuse_if(any(not sign for _, sign, _ in pairs), 44)
     keys = {decoded(key): decoded(value) for key, _, value in pairs}
-    refuse_if(len(keys) < len(pairs) or not {"account"} <= set(keys) <= {"account", "tag"}, 44)
+    refuse_if(len(keys) < len(pairs) or not {"account"} <= set(keys) <= {"account", "tag", "from"}, 44)
     return keys
 
 
@@ -167,7 +167,7 @@ def report_asked(head):
     if head.method != "GET" or path[:1] != "/" or do not in PATHS or len(parts) != len(PATHS[do]) or "" in parts:
         raise NoAnswer("404 Not Found", "not found\n")
     keys = read_query(query) if do == "register" else {}
-    return read_day({"do": do, **dict(zip(PATHS[do], parts)), **keys})
+    return read_days({"do": do, **dict(zip(PATHS[do], parts)), **keys})
 
 
 def status_of(number):

@@ -71,13 +71,14 @@ def balance_report(treasury, keys):
 
 def register_report(treasury, keys):
     """FORMATS, "Register report"."""
-    rows, sums, tag = [], {}, keys.get("tag")
+    rows, sums, tag, first = [], {}, keys.get("tag"), keys.get("from")
     for entry, _, leg in treasury.find_book(keys["branch"]).posted():
         if is_inside(leg.account, keys["account"]) and (tag is None or has_tag(entry.transaction, tag)):
             sums[leg.unit] = sums.get(leg.unit, 0) + leg.quantity
             style, description = treasury.styles[leg.unit], entry.transaction.description
             amount, total = (print_amount(style, quantity) for quantity in (leg.quantity, sums[leg.unit]))
-            rows.append((print_date(entry.day), str(entry.nr), amount, total, leg.account, description))
+            if first is None or first <= entry.day:
+                rows.append((print_date(entry.day), str(entry.nr), amount, total, leg.account, description))
     return rows
 
 

@@ -22,7 +22,7 @@ REPORTS = {
     "commodities": ([], []),
     "accounts": (["branch"], []),
     "balance": (["branch", "day"], []),
-    "register": (["branch", "account"], ["tag"]),
+    "register": (["branch", "account"], ["tag", "from"]),
     "transit": (["day"], []),
     "transfers": (["day"], []),
     "journal": (["branch"], []),
@@ -30,6 +30,8 @@ REPORTS = {
 KEYS = {**COMMANDS, **REPORTS}
 # The commands of a branch, and the key whose value is the branch
 BRANCH_COMMANDS = {"import": "branch", "dispatch": "from", "receive": "branch", "lock": "branch", "close": "branch"}
+# The keys whose values are days, where they are others than `day`
+DAYS = {"register": ["from"]}
 COUNT = re.compile("[0-9]{1,5}")
 MAX_NESTING = 127
 JSON_TEXTS = re.compile(r'"(?:[^"\\]|\\.)*"', re.S)
@@ -84,17 +86,15 @@ def is_count(keys):
     return bool(COUNT.fullmatch(keys.get("if-entries", "0")))
 
 
-def read_day(keys):
-    """FORMATS, "Requests": the keys of a request, its day as a number (44)."""
-    if "day" in keys:
-        day = read_date(keys["day"])
-        refuse_if(day is None, 44)
-        keys = {**keys, "day": day}
-    return keys
+def read_days(keys):
+    """FORMATS, "Requests": the keys of a request, its days as numbers (44)."""
+    days = {key: read_date(keys[key]) for key in DAYS.get(keys["do"], ["day"]) if key in keys}
+    refuse_if(None in days.values(), 44)
+    return {**keys, **days}
 
 
 def read_request(line):
     """RULES, "Commands": first the request is read (44)."""
     keys = read_json(line)
     refuse_if(not is_request(keys), 44)
-    return read_day(keys)
+    return read_days(keys)

@@ -1,7 +1,7 @@
 """Command lines: RULES, "The program"."""
 
 from model.refusals import Refused, refuse_if
-from model.requests import KEYS, is_count, read_day
+from model.requests import KEYS, is_count, read_days
 
 # What stands in a command line without an option's name, by command
 POSITIONAL = {"branch": "name", "commodity": "sample", "import": "journal"}
@@ -51,7 +51,7 @@ def command(treasury, words, files):
         return 2, b""
     try:
         refuse_if(("part" in keys) != ("amount" in keys) and keys["do"] == "receive", 44)
-        keys = read_day(keys)
+        keys = read_days(keys)
         refuse_if(not is_count(keys), 44)
         if keys["do"] == "import":
             refuse_if(keys["journal"] not in files, 45)

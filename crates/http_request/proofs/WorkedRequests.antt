@@ -146,16 +146,17 @@ register query = with_query word.Register (at_key key.Branch (codes "north") ∷
 abbrev with : List Given → Option (List Given)
 with more = Some (at_key key.Branch (codes "north") ∷ more)
 
--- an account, alone or with a tag, in either order; their keys may have escapes, and their values `=`
+-- an account, alone, with a tag, in either order, or with a day; their keys may have escapes, and their values `=`
 pub given : (register (codes "account=assets%3Abank") ≡ with (at_key key.Account (codes "assets:bank") ∷ []))
     × (register (codes "account=a&tag=b") ≡ with (at_key key.Account (codes "a") ∷ at_key key.Tag (codes "b") ∷ []))
+    × (register (codes "account=a&from=b") ≡ with (at_key key.Account (codes "a") ∷ at_key key.From (codes "b") ∷ []))
     × (register (codes "tag=b&account=a") ≡ with (at_key key.Tag (codes "b") ∷ at_key key.Account (codes "a") ∷ []))
     × (register (codes "%61ccount=a") ≡ with (at_key key.Account (codes "a") ∷ []))
     × (register (codes "account=a=b") ≡ with (at_key key.Account (codes "a=b") ∷ []))
     × (register (codes "account=a%26tag%3Db") ≡ with (at_key key.Account (codes "a&tag=b") ∷ []))
     × (register (codes "account=&tag=") ≡ with (at_key key.Account [] ∷ at_key key.Tag [] ∷ []))
 unfolding percent_decode is_utf8 chars encode with_query
-given = (refl, refl, refl, refl, refl, refl, refl)
+given = (refl, refl, refl, refl, refl, refl, refl, refl)
 
 -- no account, a key that is unknown, in other letters, there twice, or in the path, and a piece without `=`
 pub not_given : (register [] ≡ None) × (register (codes "tag=b") ≡ None) × (register (codes "account") ≡ None)

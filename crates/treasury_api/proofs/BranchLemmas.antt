@@ -108,7 +108,7 @@ request_own styles name (asking.Lock branch day) c own asks =
 request_own styles name (asking.Close branch day accounts into) c own asks =
     subst (IsCommandOf name) (same_command c _ asks) (same_bytes branch name own)
 request_own styles name (asking.Balance branch day) c own asks = absurd cc
-request_own styles name (asking.Register branch account tag) c own asks = absurd cc
+request_own styles name (asking.Register branch account tag from) c own asks = absurd cc
 request_own styles name (asking.Transit day) c own asks = absurd cc
 request_own styles name (asking.Journal branch) c own asks = absurd cc
 request_own styles name asking.Branches c own asks = absurd cc
@@ -127,7 +127,7 @@ report_none styles (asking.Receive id branch day account part) c report asks = a
 report_none styles (asking.Lock branch day) c report asks = absurd cc
 report_none styles (asking.Close branch day accounts into) c report asks = absurd cc
 report_none styles (asking.Balance branch day) c report asks = absurd cc
-report_none styles (asking.Register branch account tag) c report asks = absurd cc
+report_none styles (asking.Register branch account tag from) c report asks = absurd cc
 report_none styles (asking.Transit day) c report asks = absurd cc
 report_none styles (asking.Journal branch) c report asks = absurd cc
 report_none styles asking.Branches c report asks = absurd cc

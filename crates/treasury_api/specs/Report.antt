@@ -25,7 +25,7 @@ use Rattle.treasury_requests.specs.Request.{given_of}
 -- the rows of a report; a command has none
 abbrev pub report_rows : Federation → Request → List Row
 report_rows f (Balance name day) = balance_rows f name day
-report_rows f (Register name account tag) = register_rows f name account tag
+report_rows f (Register name account tag from) = register_rows f name account tag from
 report_rows f (Transit day) = transit_rows f day
 report_rows f (Journal name) = journal_rows f name
 report_rows f Branches = branches_rows f

@@ -2,8 +2,6 @@
 use Rattle.std.specs.Prelude.{◌≡◌, ◌⊎◌, ℕ, Bool, List, [], ◌∷◌, Option, Some, None, option_map, codes, decimal}
 use Rattle.std.specs.Prelude.{if◌then◌else◌}
 use Rattle.serde_json.specs.Data.{Data, string, object, Members, no_members, put}
-use Rattle.journal_lines.specs.Date.{printed_date}
-use Rattle.money_core.specs.declared.day.Day.{Day}
 use Rattle.treasury_requests.specs.declared.words.Key.{Key}
 use Rattle.treasury_requests.specs.declared.words.Key.TheVariants as key
 use Rattle.treasury_requests.specs.declared.request.Spelled.{Spelled}
@@ -20,10 +18,6 @@ with_text key text ms = put key (string text) ms
 abbrev pub with_optional : List ℕ → Option (List ℕ) → Members → Members
 with_optional key None ms = ms
 with_optional key (Some text) ms = with_text key text ms
-
--- with the day
-abbrev pub with_day_key : Day → Members → Members
-with_day_key day ms = with_text (key_name key.Day) (printed_date day) ms
 
 -- with what is given at these keys
 abbrev pub with_keys : (Key → Option (List ℕ)) → List Key → Members → Members

@@ -1,17 +1,16 @@
 -- What is sent to a running service (own rules; docs/RULES.md, "The program"; docs/FORMATS.md, "HTTP").
-use Rattle.std.specs.Prelude.{◌≡◌, ◌<◌, ℕ, IfSome, true, false, List, [], ◌++◌, length, codes, decimal, ⊤}
+use Rattle.std.specs.Prelude.{◌≡◌, ◌<◌, ℕ, IfSome, true, false, List, [], ◌++◌, length, codes, decimal}
 use Rattle.std.specs.Str.{is_utf8}
+use Rattle.treasury_requests.specs.declared.words.Key.TheVariants as key
 use Rattle.treasury_requests.specs.declared.request.Spelled.{Spelled}
 use Rattle.treasury_requests.specs.declared.request.Request.{Request}
-use Rattle.treasury_requests.specs.declared.request.Request.TheVariants.{Import}
-use Rattle.treasury_requests.specs.Request.{is_report, is_on_a_book}
+use Rattle.treasury_requests.specs.Request.{given_of, is_report, is_on_a_book}
 use Rattle.treasury_client.specs.declared.call.Form.{Form}
 use Rattle.treasury_client.specs.declared.call.Form.TheVariants.{Text, Json}
 
 -- its journal, if it has one, is a text
 abbrev pub HasText : Request → Type 0
-HasText (Import branch journal) = is_utf8 journal ≡ true
-HasText _ = ⊤
+HasText request = IfSome (given_of request key.Journal) (λ journal. is_utf8 journal ≡ true)
 
 -- there is a text that spells it: no report is a dry run; and only what is on one book says how many entries that has
 -- to have, in at most 5 digits

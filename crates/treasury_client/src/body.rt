@@ -1,22 +1,21 @@
 //! A request as JSON: the body of a call.
 
-ghost use Rattle.std.specs.Prelude.{◌≡◌, ◌≢◌, ◌⊎◌, Some, Err, codes, IfOk, IfErr, IfSome, OnOk, string_bytes};
-ghost use Rattle.std.specs.Prelude.{option_map, false};
+ghost use Rattle.std.specs.Prelude.{◌≡◌, ◌⊎◌, Some, Err, IfOk, IfErr, OnOk, string_bytes, false};
 ghost use Rattle.std.specs.Str.{is_utf8};
 ghost use Rattle.serde_json.specs.View.{members_view};
 ghost use Rattle.journal_lines.specs.Date.{IsDayNumber, printed_date};
 ghost use Rattle.treasury_requests.specs.Words.{key_name};
 ghost use Rattle.treasury_requests.specs.Request.{spelled, given_of, HasDayNumbers};
 ghost use Rattle.treasury_client.specs.Sending.{IsSendable, HasText};
-ghost use Rattle.treasury_client.specs.Parts.{with_text, with_optional, with_keys, with_day_key, with_request};
+ghost use Rattle.treasury_client.specs.Parts.{with_text, with_optional, with_keys, with_request};
 ghost use Rattle.treasury_client.specs.Parts.{with_dry_run, with_if_entries, with_terms};
 
 use itoa::Buffer;
 use journal_lines::print_date;
-use money_core::{Cause, Day, Text};
+use money_core::{Cause, Day};
 use serde_json::{Map, Value, put};
 use std::alloc::Global;
-use treasury_requests::{Bytes, Key, Request, Spelled, Terms};
+use treasury_requests::{Bytes, Key, KeyValue, Request, Spelled, Terms};
 
 /// The members of a JSON object.
 type Members = Map<String, Value>;
@@ -32,86 +31,30 @@ fn put_text(members: &mut Members, alloc: Global, key: &str, text: &str) -> Resu
     Ok(())
 }
 
-/// The text of its own that a request has at a key. A day is printed, and a journal may be none.
-fn text_of(request: &Request, key: Key) -> Option<&Text>
-    ensures { key ≢ Key.Day → key ≢ Key.Journal
-        → option_map (λ text. text.now) result ≡ given_of request.now key }
-{
-    match (request, key) {
-        (Request::Branch { name }, Key::Name) => Some(name),
-        (Request::Commodity { sample }, Key::Sample) => Some(sample),
-        (Request::Import { branch, .. }, Key::Branch) => Some(branch),
-        (Request::Dispatch { id, .. }, Key::Id) => Some(id),
-        (Request::Dispatch { from, .. }, Key::From) => Some(from),
-        (Request::Dispatch { to, .. }, Key::To) => Some(to),
-        (Request::Dispatch { amount, .. }, Key::Amount) => Some(amount),
-        (Request::Dispatch { account, .. }, Key::Account) => Some(account),
-        (Request::Receive { id, .. }, Key::Id) => Some(id),
-        (Request::Receive { branch, .. }, Key::Branch) => Some(branch),
-        (Request::Receive { account, .. }, Key::Account) => Some(account),
-        (Request::Receive { part, .. }, Key::Part) => match part {
-            Some(part) => Some(&part.key),
-            None => None,
-        },
-        (Request::Receive { part, .. }, Key::Amount) => match part {
-            Some(part) => Some(&part.amount),
-            None => None,
-        },
-        (Request::Lock { branch, .. }, Key::Branch) => Some(branch),
-        (Request::Close { branch, .. }, Key::Branch) => Some(branch),
-        (Request::Close { accounts, .. }, Key::Accounts) => accounts.as_ref(),
-        (Request::Close { into, .. }, Key::Into) => into.as_ref(),
-        (Request::Balance { branch, .. }, Key::Branch) => Some(branch),
-        (Request::Register { branch, .. }, Key::Branch) => Some(branch),
-        (Request::Register { account, .. }, Key::Account) => Some(account),
-        (Request::Register { tag, .. }, Key::Tag) => tag.as_ref(),
-        (Request::Journal { branch }, Key::Branch) => Some(branch),
-        (Request::Accounts { branch }, Key::Branch) => Some(branch),
-        _ => None,
-    }
-}
-
-/// The day that a request has.
-fn day_of(request: &Request) -> Option<Day>
-    ensures value { option_map printed_date result ≡ given_of request.now Key.Day }
-    ensures range { HasDayNumbers request.now → IfSome result IsDayNumber }
-{
-    match request {
-        Request::Dispatch { day, .. } => Some(*day),
-        Request::Receive { day, .. } => Some(*day),
-        Request::Lock { day, .. } => Some(*day),
-        Request::Close { day, .. } => Some(*day),
-        Request::Balance { day, .. } => Some(*day),
-        Request::Transit { day } => Some(*day),
-        Request::Transfers { day } => Some(*day),
-        _ => None,
-    }
-}
-
-/// Puts the date of a day at the key `day`.
-fn put_day(members: &mut Members, alloc: Global, day: Day) -> Result<(), Cause>
+/// Puts the date of a day at a key.
+fn put_day(members: &mut Members, alloc: Global, key: Key, day: Day) -> Result<(), Cause>
     requires { IsDayNumber day }
     ensures ok { OnOk result (members_view members.new.entries
-        ≡ with_day_key day (members_view members.old.entries)) }
+        ≡ with_text (key_name key) (printed_date day) (members_view members.old.entries)) }
     ensures memory { IfErr result (λ cause. cause ≡ Cause.OutOfMemory) }
 {
     let mut date = Vec::new(alloc);
     print_date(alloc, day, &mut date)?;
     match str::from_utf8(date.as_slice()) {
-        Ok(date) => put_text(members, alloc, "day", date),
+        Ok(date) => put_text(members, alloc, key.name(), date),
         Err(_) => unreachable!(),
     }
 }
 
-/// Puts a journal at its key: 1 where it is not UTF-8.
-fn put_journal(members: &mut Members, alloc: Global, journal: &Bytes) -> Result<(), Cause>
+/// Puts a journal at a key: 1 where it is not UTF-8.
+fn put_journal(members: &mut Members, alloc: Global, key: Key, journal: &Bytes) -> Result<(), Cause>
     ensures ok { OnOk result (members_view members.new.entries
-        ≡ with_text (codes "journal") journal.now (members_view members.old.entries)) }
+        ≡ with_text (key_name key) journal.now (members_view members.old.entries)) }
     ensures text { result ≡ Err Cause.Utf8 → is_utf8 journal.now ≡ false }
     ensures causes { IfErr result (λ cause. (cause ≡ Cause.Utf8) ⊎ (cause ≡ Cause.OutOfMemory)) }
 {
     match str::from_utf8(journal.as_bytes()) {
-        Ok(journal) => put_text(members, alloc, "journal", journal),
+        Ok(journal) => put_text(members, alloc, key.name(), journal),
         Err(_) => Err(Cause::Utf8),
     }
 }
@@ -124,19 +67,11 @@ fn put_key(members: &mut Members, alloc: Global, request: &Request, key: Key) ->
     ensures text { result ≡ Err Cause.Utf8 → HasText request.now → ⊥ }
     ensures causes { IfErr result (λ cause. (cause ≡ Cause.Utf8) ⊎ (cause ≡ Cause.OutOfMemory)) }
 {
-    match key {
-        Key::Day => match day_of(request) {
-            Some(day) => put_day(members, alloc, day),
-            None => Ok(()),
-        },
-        Key::Journal => match request {
-            Request::Import { journal, .. } => put_journal(members, alloc, journal),
-            _ => Ok(()),
-        },
-        _ => match text_of(request, key) {
-            Some(text) => put_text(members, alloc, key.name(), text.as_str()),
-            None => Ok(()),
-        },
+    match request.given(key) {
+        Some(KeyValue::Text(text)) => put_text(members, alloc, key.name(), text.as_str()),
+        Some(KeyValue::Day(day)) => put_day(members, alloc, key, day),
+        Some(KeyValue::Journal(journal)) => put_journal(members, alloc, key, journal),
+        None => Ok(()),
     }
 }
 

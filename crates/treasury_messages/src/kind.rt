@@ -30,7 +30,7 @@ pub enum MessageKind {
     KnownWords,
     /// A key that is there without another, and that other.
     Half,
-    /// The value of `day`, which is no date.
+    /// The key of a day, and its value, which is no date.
     NoDate,
     /// How a day is written.
     FormOfDays,

@@ -212,6 +212,22 @@ fn say_half(there: Key, missing: Key, out: &mut Vec<Message>) -> Result<(), Caus
     )
 }
 
+/// Says what stands at the key of a day, and is no date.
+fn say_no_date(key: Key, text: &Text, out: &mut Vec<Message>) -> Result<(), Cause>
+    ensures ok { OnOk result
+        (out.new.items ≡ out.old.items ++ says MessageKind.NoDate (key_name key ∷ text.now ∷ []) ∷ []) }
+{
+    say(
+        MessageKind::NoDate,
+        &[
+            Piece::Text(key.name().as_bytes()),
+            Piece::Words(b": "),
+            Piece::Text(text.as_str().as_bytes()),
+        ],
+        out,
+    )
+}
+
 /// Says what a fault of a request is.
 pub fn say_request_fault(fault: &RequestFault, out: &mut Vec<Message>) -> Result<(), Cause>
     ensures ok { OnOk result (out.new.items ≡ out.old.items ++ fault_said fault.now) }
@@ -256,8 +272,8 @@ pub fn say_request_fault(fault: &RequestFault, out: &mut Vec<Message>) -> Result
         }
         RequestFault::OtherKeys { word, other } => say_other_and_keys(*word, other, out),
         RequestFault::ValueOfKind { key, kind } => say_odd(*key, *kind, out),
-        RequestFault::NoDate { text } => {
-            say_named(MessageKind::NoDate, b"day: ", text, out)?;
+        RequestFault::NoDate { key, text } => {
+            say_no_date(*key, text, out)?;
             say_words(MessageKind::FormOfDays, FORM_OF_DAYS, out)
         }
         RequestFault::Half {

@@ -33,5 +33,5 @@ register_said (Some b) account tag = no_account_said b account ++ no_tag_said b 
 
 -- of a request
 abbrev pub report_said : Federation → Request → List Said
-report_said f (req.Register branch account tag) = register_said (branch_at f.branches branch) account tag
+report_said f (req.Register branch account tag from) = register_said (branch_at f.branches branch) account tag
 report_said f _ = []

@@ -121,7 +121,7 @@ notes_if_held f request (Some before) = notes_if_there f request before (branch_
 abbrev pub request_notes : Federation → Request → HeldBefore → List Said
 request_notes f (req.Commodity sample) before =
     if nat_lt before.commodities (length f.styles) then sample_said sample else []
-request_notes f (req.Register branch account tag) before = register_said (branch_at f.branches branch) account tag
+request_notes f (req.Register branch account tag from) before = register_said (branch_at f.branches branch) account tag
 request_notes f request before = notes_if_held f request before.branch
 
 -- those of a dry run of it, which would add these records

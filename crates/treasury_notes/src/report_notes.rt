@@ -77,6 +77,7 @@ pub fn say_report_notes<L: Ledger>(state: &State<L>, request: &Request, out: &mu
         branch,
         account,
         tag,
+        ..
     } = request
     else {
         return Ok(());

@@ -3,11 +3,14 @@ use Rattle.std.proofs.Common.{◌≡◌, ℕ, suc, ◌+◌, ◌≤◌, ◌<◌, 
 use Rattle.std.proofs.Common.{length, take, drop, get_or, ℤ, pos, ◌+ℤ◌, arith, refl, ap, ◌∙◌, sym, subst, Option}
 use Rattle.std.proofs.Common.{append_assoc, add-one, drop-cons, FitsSigned, w64, ◌≢◌, set, get_or-set_same}
 use Rattle.std.proofs.Common.{get_or-set_other}
+use Rattle.std.proofs.Common.{append-nil, map, cond, Result, Ok, Err, OnOk}
 use Rattle.std.specs.Prelude.{unsigned_abs, if◌then◌else◌, int_le}
-use Rattle.std.specs.List.{AllByRecursion}
+use Rattle.std.specs.List.{AllByRecursion, filter}
 use Rattle.std.proofs.lemmas.Int.{ints}
 use Rattle.std.proofs.lemmas.Bool.Decides.{nat_tests}
+use Rattle.money_core.specs.declared.day.Day.{Day}
 use Rattle.money_core.specs.declared.style.Style.{Style}
+use Rattle.money_core.specs.declared.cause.Cause.{Cause}
 use Rattle.money_core.specs.declared.unit.Unit.{Unit as Commodity}
 use Rattle.money_core.specs.AmountText.{IsDeclared}
 use Rattle.book_core.specs.declared.leg.Leg.{Leg}
@@ -34,8 +37,10 @@ use Rattle.treasury_state.specs.Good.{IsGoodRecord, IsGoodState}
 use Rattle.treasury_state.proofs.BranchLemmas.{of_branch}
 use Rattle.treasury_reports.specs.declared.listed.Listed.{Listed}
 use Rattle.treasury_reports.specs.RegisterReport.{listed_leg, listed_legs, listed_in, listed_from, put_by_day, by_day}
-use Rattle.treasury_reports.specs.RegisterReport.{legs_in, is_wanted, register_cells, rows_behind}
+use Rattle.treasury_reports.specs.RegisterReport.{legs_in, is_wanted, register_cells, summed_behind, is_since}
+use Rattle.treasury_reports.specs.RegisterReport.{rows_since}
 use Rattle.treasury_reports.specs.declared.rows.Layout.{Layout}
+use Rattle.treasury_reports.specs.Rows.{Row}
 use Rattle.treasury_reports.specs.Written.{row_in, rows_in}
 use Rattle.treasury_reports.specs.Lent.{IsListable, HaveRoom, sum_at, AreSumsOfListed}
 use Rattle.treasury_reports.proofs.SortLemmas.{all_by_day}
@@ -215,25 +220,56 @@ pub take_with_next : (all : List Listed) (i : ℕ) (x : Listed) → i < length a
     → take (i + 1) all ≡ take i all ++ x ∷ []
 take_with_next all i x below e = take_more all i x below ∙ ap (λ (y : Listed). take i all ++ y ∷ []) (sym e)
 
+-- ---- rows from a day on
+-- what is shown of one, and of those after it
+rows_since-cons : (layout : Layout) (styles : List Style) (from : Option Day) (x : Listed × ℤ) (xs : List (Listed × ℤ))
+    → rows_in layout (rows_since styles from (x ∷ xs))
+    ≡ rows_in layout (rows_since styles from (x ∷ [])) ++ rows_in layout (rows_since styles from xs)
+rows_since-cons layout styles from x xs = by_test (is_since from x.0.day)
+  where
+    cells : Listed × ℤ → Row
+    cells y = register_cells styles y.0 y.1
+
+    later : List (Listed × ℤ)
+    later = filter (λ (y : Listed × ℤ). is_since from y.0.day) xs
+
+    by_test : (b : Bool) → rows_in layout (map cells (cond b (x ∷ later) later))
+        ≡ rows_in layout (map cells (cond b (x ∷ []) [])) ++ rows_in layout (map cells later)
+    by_test true =
+        ap (λ (t : List ℕ). t ++ rows_in layout (map cells later)) (sym (append-nil (row_in layout (cells x))))
+    by_test false = refl
+
+-- a row that is written, where it is shown
+pub row_since : (layout : Layout) (styles : List Style) (from : Option Day) (x : Listed) (sum : ℤ)
+    (r : Result (Unit {0}) Cause) (old new : List ℕ) → is_since from x.day ≡ true
+    → OnOk r (new ≡ old ++ row_in layout (register_cells styles x sum))
+    → OnOk r (new ≡ old ++ rows_in layout (rows_since styles from ((x, sum) ∷ [])))
+row_since layout styles from x sum (Ok _) old new e h =
+    rw e (h ∙ ap (λ (t : List ℕ). old ++ t) (sym (append-nil (row_in layout (register_cells styles x sum)))))
+row_since layout styles from x sum (Err _) old new e h = tt
+
 -- the rows after one more
-pub rows_next : (layout : Layout) (styles : List Style) (all : List Listed) (i : ℕ) (x : Listed) (sum : ℤ)
-    (rows next : List ℕ)
+pub rows_next : (layout : Layout) (styles : List Style) (from : Option Day) (all : List Listed) (i : ℕ) (x : Listed)
+    (sum : ℤ) (rows next : List ℕ)
     → i < length all → x ≡ get_or all i x → sum ≡ value x.leg.unit (legs_in (take i all ++ x ∷ []))
-    → next ≡ rows ++ row_in layout (register_cells styles x sum)
-    → rows ++ rows_in layout (rows_behind styles (take i all) (drop i all)) ≡ rows_in layout (rows_behind styles [] all)
-    → next ++ rows_in layout (rows_behind styles (take (i + 1) all) (drop (i + 1) all))
-    ≡ rows_in layout (rows_behind styles [] all)
-rows_next layout styles all i x sum rows next below e s n h =
+    → next ≡ rows ++ rows_in layout (rows_since styles from ((x, sum) ∷ []))
+    → rows ++ rows_in layout (rows_since styles from (summed_behind (take i all) (drop i all)))
+    ≡ rows_in layout (rows_since styles from (summed_behind [] all))
+    → next ++ rows_in layout (rows_since styles from (summed_behind (take (i + 1) all) (drop (i + 1) all)))
+    ≡ rows_in layout (rows_since styles from (summed_behind [] all))
+rows_next layout styles from all i x sum rows next below e s n h =
     let behind : drop i all ≡ x ∷ drop (i + 1) all =
     rw add-one (drop-cons all i x below ∙ ap (λ (y : Listed). y ∷ drop (suc i) all) (sym e)) in
     let before : take (i + 1) all ≡ take i all ++ x ∷ [] = take_with_next all i x below e in
-    let row = λ (z : ℤ). row_in layout (register_cells styles x z) in
-    let rest = λ (l m : List Listed). rows_in layout (rows_behind styles l m) in
-    ap (λ (t : List ℕ). t ++ rest (take (i + 1) all) (drop (i + 1) all)) (n ∙ ap (λ (z : ℤ). rows ++ row z) s)
-    ∙ ap (λ (l : List Listed).
-    (rows ++ row (value x.leg.unit (legs_in (take i all ++ x ∷ [])))) ++ rest l (drop (i + 1) all)) before
-    ∙ append_assoc rows (row (value x.leg.unit (legs_in (take i all ++ x ∷ []))))
-    (rest (take i all ++ x ∷ []) (drop (i + 1) all))
+    let shown = λ (l : List (Listed × ℤ)). rows_in layout (rows_since styles from l) in
+    let rest = λ (l m : List Listed). shown (summed_behind l m) in
+    let own : Listed × ℤ = (x, value x.leg.unit (legs_in (take i all ++ x ∷ []))) in
+    ap (λ (t : List ℕ). t ++ rest (take (i + 1) all) (drop (i + 1) all))
+    (n ∙ ap (λ (z : ℤ). rows ++ shown ((x, z) ∷ [])) s)
+    ∙ ap (λ (l : List Listed). (rows ++ shown (own ∷ [])) ++ rest l (drop (i + 1) all)) before
+    ∙ append_assoc rows (shown (own ∷ [])) (rest (take i all ++ x ∷ []) (drop (i + 1) all))
+    ∙ ap (λ (t : List ℕ). rows ++ t)
+    (sym (rows_since-cons layout styles from own (summed_behind (take i all ++ x ∷ []) (drop (i + 1) all))))
     ∙ ap (λ (l : List Listed). rows ++ rest (take i all) l) (sym behind) ∙ h
 
 -- one more leg of a record, and one more record

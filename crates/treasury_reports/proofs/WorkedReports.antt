@@ -14,7 +14,7 @@ use Rattle.treasury_reports.specs.declared.listed.Listed.{Listed}
 use Rattle.journal_lines.specs.Tag.{first_tag, starts_tag, tag_at}
 use Rattle.treasury_reports.specs.Columns.{right_aligned, left_aligned}
 use Rattle.treasury_reports.specs.RegisterReport.{is_asked, txn_has, listed_from, by_day}
-use Rattle.treasury_reports.specs.RegisterReport.{register_cells, rows_behind}
+use Rattle.treasury_reports.specs.RegisterReport.{register_cells, summed_behind, rows_since}
 use Rattle.treasury_reports.specs.TransitReport.{open_cells, transit_rows}
 use Rattle.treasury_reports.specs.JournalReport.{branch_journal}
 
@@ -79,13 +79,31 @@ pub in_order : by_day (one (pos 2) 1 0 (pos 5) ∷ one (pos 1) 2 0 (pos 3) ∷ o
     ≡ one (negsuc 0) 4 0 (pos 1) ∷ one (pos 1) 2 0 (pos 3) ∷ one (pos 2) 1 0 (pos 5) ∷ one (pos 2) 3 1 (pos 4) ∷ []
 in_order = refl
 
+abbrev legs : List Listed
+legs = one (pos 1) 1 0 (pos 5) ∷ one (pos 1) 1 1 (pos 7) ∷ one (pos 2) 2 0 (negsuc 1) ∷ []
+
 -- each commodity has its own sum
 pub sums_so_far : (styles : List Style)
-    → rows_behind styles [] (one (pos 1) 1 0 (pos 5) ∷ one (pos 1) 1 1 (pos 7) ∷ one (pos 2) 2 0 (negsuc 1) ∷ [])
+    → rows_since styles None (summed_behind [] legs)
     ≡ register_cells styles (one (pos 1) 1 0 (pos 5)) (pos 5)
     ∷ register_cells styles (one (pos 1) 1 1 (pos 7)) (pos 7)
     ∷ register_cells styles (one (pos 2) 2 0 (negsuc 1)) (pos 3) ∷ []
 sums_so_far styles = refl
+
+-- from a day on: that day is shown, and the sum goes on from what is left out
+pub from_a_day : (styles : List Style)
+    → rows_since styles (Some (record { 0 = pos 2 })) (summed_behind [] legs)
+    ≡ register_cells styles (one (pos 2) 2 0 (negsuc 1)) (pos 3) ∷ []
+from_a_day styles = refl
+
+pub from_the_first_day : (styles : List Style)
+    → rows_since styles (Some (record { 0 = pos 1 })) (summed_behind [] legs)
+    ≡ rows_since styles None (summed_behind [] legs)
+from_the_first_day styles = refl
+
+pub from_a_later_day : (styles : List Style)
+    → rows_since styles (Some (record { 0 = pos 3 })) (summed_behind [] legs) ≡ []
+from_a_later_day styles = refl
 
 abbrev pub txn : ℤ → List (List ℕ) → Txn
 txn day comments = record {

@@ -1,5 +1,5 @@
 -- Rows, lines and arrays worked out by hand, so that a wrong definition does not check.
-use Rattle.std.specs.Prelude.{◌≡◌, pos, negsuc, List, [], ◌∷◌, codes, decimal, refl}
+use Rattle.std.specs.Prelude.{◌≡◌, pos, negsuc, List, [], ◌∷◌, None, codes, decimal, refl}
 use Rattle.json_text.specs.JsonText.{escaped}
 use Rattle.money_core.specs.declared.style.Style.{Style}
 use Rattle.money_core.specs.AmountText.{printed_in}
@@ -9,7 +9,7 @@ use Rattle.treasury_reports.specs.declared.rows.Layout.TheVariants.{Text, Json}
 use Rattle.treasury_reports.specs.declared.rows.Column.TheVariants.{Amount, Number, Lock, Plain, From, End, Note}
 use Rattle.treasury_reports.specs.Rows.{row_line, report_as}
 use Rattle.treasury_reports.specs.BalanceReport.{amount_row}
-use Rattle.treasury_reports.specs.RegisterReport.{register_cells, rows_behind}
+use Rattle.treasury_reports.specs.RegisterReport.{register_cells, summed_behind, rows_since}
 use Rattle.treasury_reports.specs.TransitReport.{transit_rows}
 use Rattle.treasury_reports.specs.JournalReport.{journal_rows}
 use Rattle.treasury_reports.specs.BranchesReport.{branches_rows}
@@ -63,7 +63,7 @@ no_balance styles = refl
 
 -- day, number, amount, sum so far, account; the description is there as an empty text
 pub second_leg : (styles : List Style)
-    → rows_behind styles [] (one (pos 1) 1 0 (pos 5) ∷ one (pos 2) 2 0 (negsuc 1) ∷ [])
+    → rows_since styles None (summed_behind [] (one (pos 1) 1 0 (pos 5) ∷ one (pos 2) 2 0 (negsuc 1) ∷ []))
     ≡ ((Plain, printed_date (day (pos 1))) ∷ (Number, decimal 1) ∷ (Amount, printed_in styles (unit 0) (pos 5))
     ∷ (Amount, printed_in styles (unit 0) (pos 5)) ∷ (End, codes "a") ∷ (Note, []) ∷ [])
     ∷ ((Plain, printed_date (day (pos 2))) ∷ (Number, decimal 2) ∷ (Amount, printed_in styles (unit 0) (negsuc 1))

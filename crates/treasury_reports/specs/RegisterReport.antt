@@ -1,8 +1,9 @@
 -- The register of an account (own rule; docs/FORMATS.md, "Register report"; hledger manual, "register", "Tags").
 use Rattle.std.specs.Prelude.{ℕ, ◌+◌, ◌==◌, nat_lt, Bool, true, ◌&&◌, ◌||◌, not, if◌then◌else◌, ℤ, int_le, List, []}
 use Rattle.std.specs.Prelude.{◌∷◌, ◌++◌, map, length, take, drop, decimal, Option, Some, None}
-use Rattle.std.specs.List.{list_any, position_or_len}
+use Rattle.std.specs.List.{list_any, filter, position_or_len}
 use Rattle.std.specs.Str.{bytes_eq}
+use Rattle.money_core.specs.declared.day.Day.{Day}
 use Rattle.money_core.specs.declared.style.Style.{Style}
 use Rattle.money_core.specs.AmountText.{printed_in}
 use Rattle.book_core.specs.declared.leg.Leg.{Leg}
@@ -85,16 +86,28 @@ register_cells styles x sum =
     (Plain, printed_date x.day) ∷ ((Number, decimal x.number) ∷ ((Amount, printed_in styles x.leg.unit x.leg.qty)
     ∷ ((Amount, printed_in styles x.leg.unit sum) ∷ ((End, x.leg.account) ∷ ((Note, x.description) ∷ [])))))
 
--- the rows of what is listed after others, each with the sum of all that is listed so far in its commodity
-abbrev pub rows_behind : List Style → List Listed → List Listed → List Row
-rows_behind styles before [] = []
-rows_behind styles before (x ∷ xs) =
-    register_cells styles x (value x.leg.unit (legs_in (before ++ x ∷ []))) ∷ rows_behind styles (before ++ x ∷ []) xs
+-- what is listed after others, each with the sum of all that is listed so far in its commodity
+abbrev pub summed_behind : List Listed → List Listed → List (Listed × ℤ)
+summed_behind before [] = []
+summed_behind before (x ∷ xs) =
+    (x, value x.leg.unit (legs_in (before ++ x ∷ []))) ∷ summed_behind (before ++ x ∷ []) xs
 
--- the register of an account and its subaccounts in a branch, in order of place
-unfoldable pub register_rows : Federation → List ℕ → List ℕ → Option (List ℕ) → List Row
-register_rows f name account tag = rows_behind f.styles [] (by_day (listed_from account tag 1 (records_of f name)))
+-- a day is not before the first that is asked for, where one is
+abbrev pub is_since : Option Day → Day → Bool
+is_since None day = true
+is_since (Some first) day = int_le first.0 day.0
 
--- its lines
+-- the rows of those whose day is not before that
+abbrev pub rows_since : List Style → Option Day → List (Listed × ℤ) → List Row
+rows_since styles from xs =
+    map (λ (x : Listed × ℤ). register_cells styles x.0 x.1) (filter (λ (x : Listed × ℤ). is_since from x.0.day) xs)
+
+-- the register of an account and its subaccounts in a branch, in order of place: from a day on, where one is asked for,
+-- and the sums are those of the whole register
+unfoldable pub register_rows : Federation → List ℕ → List ℕ → Option (List ℕ) → Option Day → List Row
+register_rows f name account tag from =
+    rows_since f.styles from (summed_behind [] (by_day (listed_from account tag 1 (records_of f name))))
+
+-- the lines of all of it
 abbrev pub register_text : Federation → List ℕ → List ℕ → Option (List ℕ) → List ℕ
-register_text f name account tag = report_as Text (register_rows f name account tag)
+register_text f name account tag = report_as Text (register_rows f name account tag None)

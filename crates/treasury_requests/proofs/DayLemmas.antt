@@ -1,6 +1,6 @@
 -- The days of a request that is spelled are of the years 1 to 9999.
 use Rattle.std.proofs.Common.{◌≡◌, ℕ, Bool, true, false, List, Option, Some, None, if◌then◌else◌}
-use Rattle.std.proofs.Common.{option_map, option_and_then, refl, subst}
+use Rattle.std.proofs.Common.{option_map, option_and_then, IfSome, refl, subst}
 use Rattle.std.specs.Str.{is_utf8}
 use Rattle.serde_json.specs.Data.{Data}
 use Rattle.serde_json.specs.Read.{read}
@@ -18,6 +18,7 @@ use Rattle.treasury_requests.specs.declared.request.Request.{Request}
 use Rattle.treasury_requests.specs.declared.request.Request.TheVariants.{Branches, Commodities}
 use Rattle.treasury_requests.specs.Keys.{given_in, has_form}
 use Rattle.treasury_requests.specs.Request.{request_by, terms_by, spelled_by, word_in, request_of, spelled, day_by}
+use Rattle.treasury_requests.specs.Request.{further_day}
 use Rattle.treasury_requests.specs.Request.{part_by, HasDayNumbers}
 
 -- each request that is made has its days
@@ -38,6 +39,16 @@ is_day : (text : Option (List ℕ)) (day : Day) → option_and_then date_of text
 is_day None day e = absurd cc
 is_day (Some text) day e = dates_bound text day e
 
+is_further_day : (text : Option (List ℕ)) (day : Option Day) → further_day text ≡ Some day → IfSome day IsDayNumber
+is_further_day None day e = (let same : None ≡ day = cc in subst (λ (d : Option Day). IfSome d IsDayNumber) same tt)
+is_further_day (Some text) day e = by_date (date_of text) refl e
+  where
+    by_date : (o : Option Day) → date_of text ≡ o → option_map Some o ≡ Some day → IfSome day IsDayNumber
+    by_date None is e = absurd cc
+    by_date (Some read) is e =
+        let same : Some read ≡ day = cc in
+        subst (λ (d : Option Day). IfSome d IsDayNumber) same (dates_bound text read is)
+
 days-request_by : (w : Word) (g : Key → Option (List ℕ)) → AllDays (request_by w g)
 days-request_by word.Branch g = days_last (g key.Name) _ (λ _ _. tt)
 days-request_by word.Commodity g = days_last (g key.Sample) _ (λ _ _. tt)
@@ -52,7 +63,9 @@ days-request_by word.Receive g =
 days-request_by word.Lock g = days_first (g key.Branch) _ (λ _ _. days_last (day_by g) _ (is_day (g key.Day)))
 days-request_by word.Close g = days_first (g key.Branch) _ (λ _ _. days_last (day_by g) _ (is_day (g key.Day)))
 days-request_by word.Balance g = days_first (g key.Branch) _ (λ _ _. days_last (day_by g) _ (is_day (g key.Day)))
-days-request_by word.Register g = days_first (g key.Branch) _ (λ _ _. days_last (g key.Account) _ (λ _ _. tt))
+days-request_by word.Register g =
+    days_first (g key.Branch) _ (λ _ _. days_first (g key.Account) _ (λ _ _. days_last (further_day (g key.From)) _
+    (is_further_day (g key.From))))
 days-request_by word.Transit g = days_last (day_by g) _ (is_day (g key.Day))
 days-request_by word.Journal g = days_last (g key.Branch) _ (λ _ _. tt)
 days-request_by word.Branches g = λ r e. (let same : Branches ≡ r = cc in subst HasDayNumbers same tt)

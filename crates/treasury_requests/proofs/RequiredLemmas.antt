@@ -26,12 +26,13 @@ use Rattle.treasury_requests.specs.declared.words.Key.TheVariants as key
 use Rattle.treasury_requests.specs.declared.request.Terms.{Terms}
 use Rattle.treasury_requests.specs.declared.request.Spelled.{Spelled}
 use Rattle.treasury_requests.specs.declared.request.Request.{Request}
+use Rattle.treasury_requests.specs.declared.request.Request.TheVariants.{Register}
 use Rattle.treasury_requests.specs.Words.{key_name, word_name, all_words, is_word_named}
 use Rattle.treasury_requests.specs.Keys.{text_at, given_in, is_odd, keys_of, is_key_named, may_have, is_other_key}
 use Rattle.treasury_requests.specs.Keys.{names_in, member_names, has_form}
 use Rattle.treasury_requests.specs.Request.{request_by, terms_by, spelled_by, in_earnest, request_of, spelled}
 use Rattle.treasury_requests.specs.Required.{RequiredForm, required_forms, has_only, form_named, required_of, required}
-use Rattle.treasury_requests.specs.Required.{added_words, added_keys, has_addition, adds, KeepsRequired}
+use Rattle.treasury_requests.specs.Required.{added_words, added_keys, has_added_key, has_addition, adds, KeepsRequired}
 
 -- ---- a key among names
 -- the name is among them
@@ -108,16 +109,16 @@ names_values k (array ds) = refl
 names_values k (object ms) = names_members k ms
 
 -- ---- one form beside its word
--- the name is allowed or added
-abbrev is_covered : List (List ℕ) → List ℕ → Bool
-is_covered keys n = list_any (bytes_eq n) keys || list_any (bytes_eq n) added_keys
+-- the name is allowed, or added to those of a word
+abbrev is_covered : List ℕ → List (List ℕ) → List ℕ → Bool
+is_covered t keys n = list_any (bytes_eq n) keys || list_any (bytes_eq n) (added_keys t)
 
 -- what is allowed is what the word may have, it is nothing that is added, and all else that it may have is added
 record Fits (w : Word) (keys : List (List ℕ)) : Type 0 where
   allows : list_all (may_have w) (codes "do" ∷ keys) ≡ true
   no_dry_run : list_any (bytes_eq (codes "dry-run")) (codes "do" ∷ keys) ≡ false
   no_if_entries : list_any (bytes_eq (codes "if-entries")) (codes "do" ∷ keys) ≡ false
-  covers : list_all (is_covered keys) (map key_name (keys_of w)) ≡ true
+  covers : list_all (is_covered (word_name w) keys) (map key_name (keys_of w)) ≡ true
 
 -- each name is allowed and has a text
 abbrev HasOnly : List (List ℕ) → Data → Type 0
@@ -196,14 +197,15 @@ in_keys P n k ks h first rest = by_test (bytes_eq (key_name k) n) refl h
     by_test false e h = rest h
 
 -- a name of the word's that is not added is allowed
-allowed : (ks : List Key) (keys : List (List ℕ)) (n : List ℕ) → list_all (is_covered keys) (map key_name ks) ≡ true
-    → list_any (is_key_named n) ks ≡ true → list_any (bytes_eq n) added_keys ≡ false → Among n keys
-allowed [] keys n all h none = absurd (true≢false (sym h))
-allowed (k ∷ ks) keys n all h none =
-    let parts = and_parts (is_covered keys (key_name k)) (list_all (is_covered keys) (map key_name ks)) all in
+allowed : (t : List ℕ) (ks : List Key) (keys : List (List ℕ)) (n : List ℕ)
+    → list_all (is_covered t keys) (map key_name ks) ≡ true
+    → list_any (is_key_named n) ks ≡ true → list_any (bytes_eq n) (added_keys t) ≡ false → Among n keys
+allowed t [] keys n all h none = absurd (true≢false (sym h))
+allowed t (k ∷ ks) keys n all h none =
+    let parts = and_parts (is_covered t keys (key_name k)) (list_all (is_covered t keys) (map key_name ks)) all in
     in_keys (Among n keys) n k ks h
-    (λ e. left (list_any (bytes_eq n) keys) (list_any (bytes_eq n) added_keys)
-    (subst (λ m. is_covered keys m ≡ true) e parts.0) none) (λ h. allowed ks keys n parts.1 h none)
+    (λ e. left (list_any (bytes_eq n) keys) (list_any (bytes_eq n) (added_keys t))
+    (subst (λ m. is_covered t keys m ≡ true) e parts.0) none) (λ h. allowed t ks keys n parts.1 h none)
   where
     left : (s t : Bool) → (s || t) ≡ true → t ≡ false → s ≡ true
     left true t e f = refl
@@ -225,12 +227,12 @@ has_text (k ∷ ks) d n odd h has =
     even true false e f = absurd (true≢false e)
     even false t e f = absurd (true≢false (sym f))
 
--- no key of the object is added
-abbrev NoKeyAdded : Data → Type 0
-NoKeyAdded d = (n : List ℕ) → Among n (member_names d) → list_any (bytes_eq n) added_keys ≡ false
+-- no key of the object is added to those of a word
+abbrev NoKeyAdded : List ℕ → Data → Type 0
+NoKeyAdded t d = (n : List ℕ) → Among n (member_names d) → list_any (bytes_eq n) (added_keys t) ≡ false
 
 only_holds : (w : Word) (keys : List (List ℕ)) (d : Data) (t : List ℕ) → Fits w keys → has_form w d ≡ true
-    → text_at (codes "do") d ≡ Some t → NoKeyAdded d → HasOnly keys d
+    → text_at (codes "do") d ≡ Some t → NoKeyAdded (word_name w) d → HasOnly keys d
 only_holds w keys d t fits holds said none n among = by_do (bytes_eq (codes "do") n) refl mine
   where
     flip : (s : Bool) → not s ≡ true → s ≡ false
@@ -259,7 +261,7 @@ only_holds w keys d t fits holds said none n among = by_do (bytes_eq (codes "do"
         subst (λ m. Among m (codes "do" ∷ keys) × (is_some (text_at m d) ≡ true)) same it
     by_do false e h = (
       or_right (bytes_eq n (codes "do")) (list_any (bytes_eq n) keys)
-          (allowed (keys_of w) keys n fits.covers h (none n among)),
+          (allowed (word_name w) (keys_of w) keys n fits.covers h (none n among)),
       has_text (keys_of w) d n (flip _ halves.1) h (sym (names_values n d) ∙ among),
     )
 
@@ -281,19 +283,19 @@ requested d f = option_and_then (λ form. if has_only form.keys d then form.requ
 abbrev asked : Data → Option Word → Option Spelled
 asked d o = option_and_then (λ w. if has_form w d then spelled_by w (given_in d) else None) o
 
--- the two agree, if no key and no word is added
-record Agree (d : Data) (is_added : Bool) (o : Option Word) (f : Option RequiredForm) : Type 0 where
+-- the two agree, if no key is added to those of the word that the text is, and no word is
+record Agree (t : List ℕ) (d : Data) (is_added : Bool) (o : Option Word) (f : Option RequiredForm) : Type 0 where
   same : (r : Request) → requested d f ≡ Some r → asked d o ≡ Some (in_earnest r)
-  none : NoKeyAdded d → is_added ≡ false → requested d f ≡ None → asked d o ≡ None
+  none : NoKeyAdded t d → is_added ≡ false → requested d f ≡ None → asked d o ≡ None
 
 -- a form is that of a word
 record IsForm (d : Data) (w : Word) (f : RequiredForm) : Type 0 where
   name : f.word ≡ word_name w
   fits : Fits w f.keys
-  request : f.request ≡ request_by w (given_in d)
+  request : HasOnly f.keys d → f.request ≡ request_by w (given_in d)
 
 form_agrees : (d : Data) (t : List ℕ) (is_added : Bool) (w : Word) (f : RequiredForm)
-    → text_at (codes "do") d ≡ Some t → IsForm d w f → Agree d is_added (Some w) (Some f)
+    → text_at (codes "do") d ≡ Some t → IsForm d w f → Agree (word_name w) d is_added (Some w) (Some f)
 form_agrees d t is_added w f said is = record {
   same = λ r e. by_only r (has_only f.keys d) refl e;
   none = λ lacks _ e. by_form lacks e (has_form w d) refl;
@@ -301,16 +303,18 @@ form_agrees d t is_added w f said is = record {
   where
     by_only : (r : Request) (s : Bool) → has_only f.keys d ≡ s → (if s then f.request else None) ≡ Some r
         → asked d (Some w) ≡ Some (in_earnest r)
-    by_only r true h e = kept w f.keys d r is.fits (only_each f.keys d h) (sym is.request ∙ e)
+    by_only r true h e =
+        (let only = only_each f.keys d h in kept w f.keys d r is.fits only (sym (is.request only) ∙ e))
     by_only r false h e = absurd cc
 
-    by_form : NoKeyAdded d → requested d (Some f) ≡ None → (s : Bool) → has_form w d ≡ s
+    by_form : NoKeyAdded (word_name w) d → requested d (Some f) ≡ None → (s : Bool) → has_form w d ≡ s
         → (if s then spelled_by w (given_in d) else None) ≡ None
     by_form lacks e true h =
-        let only : has_only f.keys d ≡ true = only_from f.keys d (only_holds w f.keys d t is.fits h said lacks) in
+        let each : HasOnly f.keys d = only_holds w f.keys d t is.fits h said lacks in
+        let only : has_only f.keys d ≡ true = only_from f.keys d each in
         let empty : f.request ≡ None = ap (λ (s : Bool). let held : Option Request = (if s then f.request else None) in
         held) (sym only) ∙ e in
-        none_spelled w (given_in d) (sym is.request ∙ empty)
+        none_spelled w (given_in d) (sym (is.request each) ∙ empty)
     by_form lacks e false h = refl
 
 -- the forms are those of the first words, and the others are added
@@ -325,13 +329,13 @@ is_added t = list_any (bytes_eq t) added_words
 
 found_agree : (d : Data) (t : List ℕ) → text_at (codes "do") d ≡ Some t → (ws : List Word) (fs : List RequiredForm)
     → AreForms d ws fs
-    → Agree d (is_added t) (find (is_word_named t) ws) (find (λ (f : RequiredForm). bytes_eq f.word t) fs)
+    → Agree t d (is_added t) (find (is_word_named t) ws) (find (λ (f : RequiredForm). bytes_eq f.word t) fs)
 found_agree d t said [] [] are = record { same = λ r e. absurd cc; none = λ _ _ _. refl }
 found_agree d t said [] (f ∷ fs) are = absurd are
 found_agree d t said (w ∷ ws) [] are = by_test (bytes_eq (word_name w) t) refl (found_agree d t said ws [] are.1)
   where
-    by_test : (s : Bool) → bytes_eq (word_name w) t ≡ s → Agree d (is_added t) (find (is_word_named t) ws) None
-        → Agree d (is_added t) (cond s (Some w) (find (is_word_named t) ws)) None
+    by_test : (s : Bool) → bytes_eq (word_name w) t ≡ s → Agree t d (is_added t) (find (is_word_named t) ws) None
+        → Agree t d (is_added t) (cond s (Some w) (find (is_word_named t) ws)) None
     by_test true e rest = record {
       same = λ r f. absurd cc;
       none = λ _ no _. absurd (true≢false (sym (subst (λ n. Among n added_words) (same_bytes (word_name w) t e) are.0)
@@ -339,53 +343,71 @@ found_agree d t said (w ∷ ws) [] are = by_test (bytes_eq (word_name w) t) refl
     }
     by_test false e rest = rest
 found_agree d t said (w ∷ ws) (f ∷ fs) are =
-    subst (λ name. Agree d (is_added t) (cond (bytes_eq (word_name w) t) (Some w) (find (is_word_named t) ws))
+    subst (λ name. Agree t d (is_added t) (cond (bytes_eq (word_name w) t) (Some w) (find (is_word_named t) ws))
     (cond (bytes_eq name t) (Some f) (find (λ (f : RequiredForm). bytes_eq f.word t) fs))) (sym are.0.name)
-    (by_test (bytes_eq (word_name w) t) (form_agrees d t (is_added t) w f said are.0) (found_agree d t said ws fs
-    are.1))
+    (by_test (bytes_eq (word_name w) t) refl (found_agree d t said ws fs are.1))
   where
-    by_test : (s : Bool) → Agree d (is_added t) (Some w) (Some f)
-        → Agree d (is_added t) (find (is_word_named t) ws) (find (λ (f : RequiredForm). bytes_eq f.word t) fs)
-        → Agree d (is_added t) (cond s (Some w) (find (is_word_named t) ws))
+    here : bytes_eq (word_name w) t ≡ true → Agree t d (is_added t) (Some w) (Some f)
+    here e =
+        subst (λ name. Agree name d (is_added t) (Some w) (Some f)) (same_bytes (word_name w) t e)
+        (form_agrees d t (is_added t) w f said are.0)
+
+    by_test : (s : Bool) → bytes_eq (word_name w) t ≡ s
+        → Agree t d (is_added t) (find (is_word_named t) ws) (find (λ (f : RequiredForm). bytes_eq f.word t) fs)
+        → Agree t d (is_added t) (cond s (Some w) (find (is_word_named t) ws))
         (cond s (Some f) (find (λ (f : RequiredForm). bytes_eq f.word t) fs))
-    by_test true here rest = here
-    by_test false here rest = rest
+    by_test true e rest = here e
+    by_test false e rest = rest
 
 form_is : (d : Data) (w : Word) (f : RequiredForm) → f.word ≡ word_name w
     → list_all (may_have w) (codes "do" ∷ f.keys) ≡ true
     → list_any (bytes_eq (codes "dry-run")) (codes "do" ∷ f.keys) ≡ false
     → list_any (bytes_eq (codes "if-entries")) (codes "do" ∷ f.keys) ≡ false
-    → list_all (is_covered f.keys) (map key_name (keys_of w)) ≡ true
-    → f.request ≡ request_by w (given_in d) → IsForm d w f
+    → list_all (is_covered (word_name w) f.keys) (map key_name (keys_of w)) ≡ true
+    → (HasOnly f.keys d → f.request ≡ request_by w (given_in d)) → IsForm d w f
 form_is d w f name allows no_dry_run no_if_entries covers request = record {
   name = name;
   fits = record { allows = allows; no_dry_run = no_dry_run; no_if_entries = no_if_entries; covers = covers };
   request = request;
 }
 
+-- a register that does not say where it begins
+whole_register : (g : Key → Option (List ℕ)) → g key.From ≡ None
+    → option_and_then (λ branch. option_map (λ account. Register branch account (g key.Tag) None) (g key.Account))
+    (g key.Branch) ≡ request_by word.Register g
+whole_register g e = rw e (by_parts (g key.Branch) (g key.Account))
+  where
+    by_parts : (branch account : Option (List ℕ))
+        → option_and_then (λ b. option_map (λ a. Register b a (g key.Tag) None) account) branch
+        ≡ option_and_then (λ b. option_and_then (λ a. option_map (Register b a (g key.Tag)) (Some None)) account) branch
+    by_parts None account = refl
+    by_parts (Some b) None = refl
+    by_parts (Some b) (Some a) = refl
+
 all_forms : (d : Data) → AreForms d all_words (required_forms (λ k. text_at k d))
 all_forms d = (
-  form_is d word.Branch _ refl refl refl refl refl refl,
+  form_is d word.Branch _ refl refl refl refl refl (λ _. refl),
   (
-    form_is d word.Commodity _ refl refl refl refl refl refl,
+    form_is d word.Commodity _ refl refl refl refl refl (λ _. refl),
     (
-      form_is d word.Import _ refl refl refl refl refl refl,
+      form_is d word.Import _ refl refl refl refl refl (λ _. refl),
       (
-        form_is d word.Dispatch _ refl refl refl refl refl refl,
+        form_is d word.Dispatch _ refl refl refl refl refl (λ _. refl),
         (
-          form_is d word.Receive _ refl refl refl refl refl refl,
+          form_is d word.Receive _ refl refl refl refl refl (λ _. refl),
           (
-            form_is d word.Lock _ refl refl refl refl refl refl,
+            form_is d word.Lock _ refl refl refl refl refl (λ _. refl),
             (
-              form_is d word.Close _ refl refl refl refl refl refl,
+              form_is d word.Close _ refl refl refl refl refl (λ _. refl),
               (
-                form_is d word.Balance _ refl refl refl refl refl refl,
+                form_is d word.Balance _ refl refl refl refl refl (λ _. refl),
                 (
-                  form_is d word.Register _ refl refl refl refl refl refl,
+                  form_is d word.Register _ refl refl refl refl refl (λ only. whole_register (given_in d)
+                      (no_text (codes "branch" ∷ codes "account" ∷ codes "tag" ∷ []) d (codes "from") only refl)),
                   (
-                    form_is d word.Transit _ refl refl refl refl refl refl,
+                    form_is d word.Transit _ refl refl refl refl refl (λ _. refl),
                     (
-                      form_is d word.Journal _ refl refl refl refl refl refl,
+                      form_is d word.Journal _ refl refl refl refl refl (λ _. refl),
                       (refl, (refl, (refl, (refl, tt)))),
                     ),
                   ),
@@ -410,7 +432,7 @@ object_keeps d = by_said (text_at (codes "do") d) refl
   where
     by_said : (o : Option (List ℕ)) → text_at (codes "do") d ≡ o
         → Keeps (requested d (option_and_then (form_named d) o))
-        (list_any (λ name. list_any (bytes_eq name) added_keys) (member_names d) || option_map_or is_added o false)
+        (option_map_or (λ t. is_added t || has_added_key t d) o false)
         (asked d (option_and_then (λ text. find (is_word_named text) all_words) o))
     by_said None said = record { same = λ r e. absurd cc; none = λ _ _. refl }
     by_said (Some t) said =
@@ -418,7 +440,7 @@ object_keeps d = by_said (text_at (codes "do") d) refl
         record {
           same = agree.same;
           none = λ e no. (let parts = or_parts _ _ no in agree.none
-              (none_any (λ name. list_any (bytes_eq name) added_keys) (member_names d) parts.0) parts.1 e);
+              (none_any (λ name. list_any (bytes_eq name) (added_keys t)) (member_names d) parts.1) parts.0 e);
         }
 
 pub bytes_keep : (bytes : List ℕ) → Keeps (required bytes) (adds bytes) (spelled bytes)

@@ -55,9 +55,21 @@ pub odd : fault_in (codes "{\"do\":\"lock\",\"branch\":\"x\",\"day\":null,\"dry-
 unfolding serde_json_on_literals
 odd = refl
 
-pub no_date : fault_in (codes "{\"do\":\"transit\",\"day\":\"x\"}") ≡ Some (by.NoDate (codes "x"))
+pub no_date : fault_in (codes "{\"do\":\"transit\",\"day\":\"x\"}") ≡ Some (by.NoDate key.Day (codes "x"))
 unfolding serde_json_on_literals date_of
 no_date = refl
+
+-- where a register begins is a day; a transfer comes from a branch
+pub no_date_from : fault_in (codes "{\"do\":\"register\",\"branch\":\"x\",\"account\":\"a\",\"from\":\"y\"}")
+    ≡ Some (by.NoDate key.From (codes "y"))
+unfolding serde_json_on_literals date_of
+no_date_from = refl
+
+pub from_a_branch : fault_in (codes
+    "{\"do\":\"dispatch\",\"id\":\"t\",\"from\":\"x\",\"to\":\"y\",\"day\":\"z\",\"amount\":\"1\",\"account\":\"a\"}")
+    ≡ Some (by.NoDate key.Day (codes "z"))
+unfolding serde_json_on_literals date_of
+from_a_branch = refl
 
 pub no_choice : fault_in (codes "{\"do\":\"branch\",\"name\":\"x\",\"dry-run\":\"\"}") ≡ Some (by.NoChoice [])
 unfolding serde_json_on_literals

@@ -1,20 +1,31 @@
 -- Values worked out by hand, so that a wrong definition of what asks for a report does not check.
-use Rattle.std.specs.Prelude.{◌≡◌, Some, None, codes, refl}
+use Rattle.std.specs.Prelude.{◌≡◌, Some, None, option_map, codes, refl}
 use Rattle.std.specs.Str.{is_utf8, chars}
 use Rattle.serde_json.proofs.OnLiterals.{serde_json_on_literals}
+use Rattle.journal_lines.specs.DateReading.{date_of}
 use Rattle.treasury_requests.specs.Request.{spelled, in_earnest}
 use Rattle.treasury_requests.specs.declared.request.Request.TheVariants.{Register, Journal, Branches, Accounts}
 
--- a register with a tag and without one; the tag is the only key that may be missing
+-- a register with a tag and without one, and from a day on; these two keys may be missing
 pub tagged : spelled (codes "{\"do\":\"register\",\"branch\":\"x\",\"account\":\"a\",\"tag\":\"t=\"}")
-    ≡ Some (in_earnest (Register (codes "x") (codes "a") (Some (codes "t="))))
+    ≡ Some (in_earnest (Register (codes "x") (codes "a") (Some (codes "t=")) None))
 unfolding serde_json_on_literals spelled is_utf8 chars
 tagged = refl
 
 pub plain : spelled (codes "{\"do\":\"register\",\"branch\":\"x\",\"account\":\"a\"}")
-    ≡ Some (in_earnest (Register (codes "x") (codes "a") None))
+    ≡ Some (in_earnest (Register (codes "x") (codes "a") None None))
 unfolding serde_json_on_literals spelled is_utf8 chars
 plain = refl
+
+pub from_a_day : spelled (codes "{\"do\":\"register\",\"branch\":\"x\",\"account\":\"a\",\"from\":\"2024-03-01\"}")
+    ≡ option_map in_earnest (option_map (Register (codes "x") (codes "a") None)
+    (option_map Some (date_of (codes "2024-03-01"))))
+unfolding serde_json_on_literals spelled is_utf8 chars
+from_a_day = refl
+
+pub from_no_day : spelled (codes "{\"do\":\"register\",\"branch\":\"x\",\"account\":\"a\",\"from\":\"x\"}") ≡ None
+unfolding serde_json_on_literals spelled is_utf8 chars date_of
+from_no_day = refl
 
 pub of_no_account : spelled (codes "{\"do\":\"register\",\"branch\":\"x\",\"tag\":\"t\"}") ≡ None
 unfolding serde_json_on_literals spelled is_utf8 chars

@@ -1,11 +1,11 @@
 -- What a word lacks to make a request of what is given.
 use Rattle.std.specs.Prelude.{ℕ, Bool, not, ◌&&◌, ◌||◌, List, Option, is_some}
-use Rattle.std.specs.List.{list_any}
+use Rattle.std.specs.List.{find, list_any}
 use Rattle.treasury_requests.specs.declared.words.Word.{Word}
 use Rattle.treasury_requests.specs.declared.words.Key.{Key}
 use Rattle.treasury_requests.specs.declared.words.Key.TheVariants as key
-use Rattle.treasury_requests.specs.Words.{needed}
-use Rattle.treasury_requests.specs.Request.{day_by, part_by}
+use Rattle.treasury_requests.specs.Words.{needed, further}
+use Rattle.treasury_requests.specs.Request.{day_by, is_undated, part_by}
 use Rattle.treasury_requests.specs.RequestFault.{is_receipt}
 
 -- there is no text at the key, or at that of a day no date
@@ -17,6 +17,8 @@ is_missing g k = not (is_some (g k))
 abbrev pub is_half : (Key → Option (List ℕ)) → Bool
 is_half g = not (is_some (part_by g))
 
--- half of a part is given, or a key that the word needs is missing
+-- half of a part is given, a further day is no date, or a key that the word needs is missing
 abbrev pub lacks_by : Word → (Key → Option (List ℕ)) → Bool
-lacks_by w g = (is_receipt w && is_half g) || list_any (is_missing g) (needed w)
+lacks_by w g =
+    (is_receipt w && is_half g)
+    || (is_some (find (is_undated w g) (further w)) || list_any (is_missing g) (needed w))

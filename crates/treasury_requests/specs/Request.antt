@@ -1,7 +1,7 @@
 -- The requests (own rule; docs/FORMATS.md, "Requests"): what each word asks for, by what is given at its keys, and
 -- how a line spells it. A line is one JSON object, and each of its values is a text. What JSON is, `serde_json` says:
 -- arrays and objects nest 127 deep, and of a key that is written twice the last one stays.
-use Rattle.std.specs.Prelude.{ℕ, Bool, if◌then◌else◌, List, codes, ⊤, true, false}
+use Rattle.std.specs.Prelude.{◌≡◌, ℕ, Bool, not, ◌&&◌, if◌then◌else◌, List, codes, ⊤, true, false, IfSome}
 use Rattle.std.specs.Prelude.{Option, Some, None, is_some, option_map, option_and_then}
 use Rattle.std.specs.List.{find}
 use Rattle.std.specs.Str.{bytes_eq, is_utf8}
@@ -18,17 +18,28 @@ use Rattle.treasury_requests.specs.declared.words.Key.TheVariants as key
 use Rattle.treasury_requests.specs.declared.request.WrittenPart.{WrittenPart}
 use Rattle.treasury_requests.specs.declared.request.Terms.{Terms}
 use Rattle.treasury_requests.specs.declared.request.Spelled.{Spelled}
+use Rattle.treasury_requests.specs.declared.request.KeyValue.{KeyValue}
+use Rattle.treasury_requests.specs.declared.request.KeyValue.TheVariants as key_value
 use Rattle.treasury_requests.specs.declared.request.Request.{Request}
 use Rattle.treasury_requests.specs.declared.request.Request.TheVariants.{Branch, Commodity, Import, Dispatch}
 use Rattle.treasury_requests.specs.declared.request.Request.TheVariants.{Receive, Lock}
 use Rattle.treasury_requests.specs.declared.request.Request.TheVariants.{Close, Balance, Register, Transit, Journal}
 use Rattle.treasury_requests.specs.declared.request.Request.TheVariants.{Branches, Commodities, Accounts, Transfers}
-use Rattle.treasury_requests.specs.Words.{word_kind, is_report_word, book_key, is_word_named, all_words}
+use Rattle.treasury_requests.specs.Words.{word_kind, is_day_key, is_report_word, book_key, is_word_named, all_words}
 use Rattle.treasury_requests.specs.Keys.{text_at, given_in, has_form}
 
 -- the day that is given, where it is a date
 abbrev pub day_by : (Key → Option (List ℕ)) → Option Day
 day_by g = option_and_then date_of (g key.Day)
+
+-- a day that may be given: none is, or it is a date
+abbrev pub further_day : Option (List ℕ) → Option (Option Day)
+further_day None = Some None
+further_day (Some text) = option_map Some (date_of text)
+
+-- what is given at the key of a day is no date
+abbrev pub is_undated : Word → (Key → Option (List ℕ)) → Key → Bool
+is_undated w g k = is_day_key w k && not (is_some (further_day (g k)))
 
 -- a part, by its key and its amount
 abbrev pub written_part : List ℕ → List ℕ → WrittenPart
@@ -64,8 +75,8 @@ request_by word.Close g =
     (g key.Branch)
 request_by word.Balance g = option_and_then (λ branch. option_map (Balance branch) (day_by g)) (g key.Branch)
 request_by word.Register g =
-    option_and_then (λ branch. option_map (λ account. Register branch account (g key.Tag)) (g key.Account))
-    (g key.Branch)
+    option_and_then (λ branch. option_and_then (λ account. option_map (Register branch account (g key.Tag))
+    (further_day (g key.From))) (g key.Account)) (g key.Branch)
 request_by word.Transit g = option_map Transit (day_by g)
 request_by word.Journal g = option_map Journal (g key.Branch)
 request_by word.Branches g = Some Branches
@@ -83,7 +94,7 @@ word_of (Receive id branch day account part) = word.Receive
 word_of (Lock branch day) = word.Lock
 word_of (Close branch day accounts into) = word.Close
 word_of (Balance branch day) = word.Balance
-word_of (Register branch account tag) = word.Register
+word_of (Register branch account tag from) = word.Register
 word_of (Transit day) = word.Transit
 word_of (Journal branch) = word.Journal
 word_of Branches = word.Branches
@@ -117,9 +128,10 @@ given_of (Close branch day accounts into) key.Accounts = accounts
 given_of (Close branch day accounts into) key.Into = into
 given_of (Balance branch day) key.Branch = Some branch
 given_of (Balance branch day) key.Day = Some (printed_date day)
-given_of (Register branch account tag) key.Branch = Some branch
-given_of (Register branch account tag) key.Account = Some account
-given_of (Register branch account tag) key.Tag = tag
+given_of (Register branch account tag from) key.Branch = Some branch
+given_of (Register branch account tag from) key.Account = Some account
+given_of (Register branch account tag from) key.Tag = tag
+given_of (Register branch account tag from) key.From = option_map printed_date from
 given_of (Transit day) key.Day = Some (printed_date day)
 given_of (Journal branch) key.Branch = Some branch
 given_of (Accounts branch) key.Branch = Some branch
@@ -190,6 +202,19 @@ HasDayNumbers (Receive id branch day account part) = IsDayNumber day
 HasDayNumbers (Lock branch day) = IsDayNumber day
 HasDayNumbers (Close branch day accounts into) = IsDayNumber day
 HasDayNumbers (Balance branch day) = IsDayNumber day
+HasDayNumbers (Register branch account tag from) = IfSome from IsDayNumber
 HasDayNumbers (Transit day) = IsDayNumber day
 HasDayNumbers (Transfers day) = IsDayNumber day
 HasDayNumbers _ = ⊤
+
+-- what stands at a key, as a text
+abbrev pub key_value_text : KeyValue → List ℕ
+key_value_text (key_value.Text text) = text.now
+key_value_text (key_value.Day day) = printed_date day
+key_value_text (key_value.Journal bytes) = bytes.now
+
+-- a day is of the years 1 to 9999, and a journal stands at its own key
+abbrev pub IsValueAt : Key → KeyValue → Type 0
+IsValueAt k (key_value.Text text) = ⊤
+IsValueAt k (key_value.Day day) = IsDayNumber day
+IsValueAt k (key_value.Journal bytes) = k ≡ key.Journal

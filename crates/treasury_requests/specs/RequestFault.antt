@@ -6,7 +6,6 @@ use Rattle.std.specs.Option.{option_or, unwrap_or, IsSome}
 use Rattle.std.specs.Str.{IsUtf8, IsValidUpTo}
 use Rattle.serde_json.specs.Data.{Data, null, boolean, number, string, array, object}
 use Rattle.serde_json.specs.Read.{read}
-use Rattle.journal_lines.specs.DateReading.{date_of}
 use Rattle.journal_lines.specs.Number.{entry_count}
 use Rattle.treasury_requests.specs.declared.words.Word.{Word}
 use Rattle.treasury_requests.specs.declared.words.Word.TheVariants as word
@@ -16,8 +15,9 @@ use Rattle.treasury_requests.specs.declared.fault.Kind.{Kind}
 use Rattle.treasury_requests.specs.declared.fault.Kind.TheVariants as kind
 use Rattle.treasury_requests.specs.declared.fault.RequestFault.{RequestFault}
 use Rattle.treasury_requests.specs.declared.fault.RequestFault.TheVariants as by
-use Rattle.treasury_requests.specs.Keys.{text_at, value_at, has_member, lacks_key, is_odd, may_have, other_key}
-use Rattle.treasury_requests.specs.Request.{yes_or_no, spelled}
+use Rattle.treasury_requests.specs.Keys.{text_at, given_in, value_at, has_member, lacks_key, is_odd, keys_of, may_have}
+use Rattle.treasury_requests.specs.Keys.{other_key}
+use Rattle.treasury_requests.specs.Request.{is_undated, yes_or_no, spelled}
 use Rattle.treasury_requests.specs.Words.{key_name, all_words, is_word_named, needed, further}
 
 -- what a value is
@@ -62,13 +62,13 @@ odd_fault w d = option_or (odd_fault_in d (needed w)) (odd_fault_in d (further w
 abbrev pub own_text_at : Word → Data → Key → Option (List ℕ)
 own_text_at w d k = if may_have w (key_name k) then text_at (key_name k) d else None
 
--- its day is no date
-abbrev pub date_fault_in : List ℕ → Option RequestFault
-date_fault_in text = if is_some (date_of text) then None else Some (by.NoDate text)
+-- what stands at the key of a day is no date
+abbrev pub date_fault_at : Data → Key → Option RequestFault
+date_fault_at d k = option_map (by.NoDate k) (given_in d k)
 
--- the day of the request is no date
+-- the first of its days that is no date
 abbrev pub date_fault : Word → Data → Option RequestFault
-date_fault w d = option_and_then date_fault_in (own_text_at w d key.Day)
+date_fault w d = option_and_then (date_fault_at d) (find (is_undated w (given_in d)) (keys_of w))
 
 -- a receipt has one of two keys that only go together
 abbrev pub half_of : Option (List ℕ) → Bool → Bool → Option RequestFault

@@ -57,7 +57,7 @@ required_forms at =
     ∷ required_form (codes "balance") (codes "branch" ∷ codes "day" ∷ [])
     (of_branch (λ branch. option_map (Balance branch) day))
     ∷ required_form (codes "register") (codes "branch" ∷ codes "account" ∷ codes "tag" ∷ [])
-    (of_branch (λ branch. option_map (λ account. Register branch account (at (codes "tag"))) account))
+    (of_branch (λ branch. option_map (λ account. Register branch account (at (codes "tag")) None) account))
     ∷ required_form (codes "transit") (codes "day" ∷ []) (option_map Transit day)
     ∷ required_form (codes "journal") (codes "branch" ∷ []) (option_map Journal branch)
     ∷ []
@@ -81,19 +81,23 @@ required_of d =
 unfoldable pub required : List ℕ → Option Request
 required bytes = if is_utf8 bytes then option_and_then required_of (read bytes) else None
 
--- the words and the keys that this treasury adds
+-- the words that this treasury adds
 abbrev pub added_words : List (List ℕ)
 added_words = codes "branches" ∷ codes "commodities" ∷ codes "accounts" ∷ codes "transfers" ∷ []
 
--- the keys that it adds
-abbrev pub added_keys : List (List ℕ)
-added_keys = codes "dry-run" ∷ codes "if-entries" ∷ []
+-- the keys that it adds to those of a word: those of terms, and to a register the day from which on it is asked for
+abbrev pub added_keys : List ℕ → List (List ℕ)
+added_keys word =
+    codes "dry-run" ∷ codes "if-entries" ∷ (if bytes_eq word (codes "register") then codes "from" ∷ [] else [])
 
--- one of them stands in the object
+-- one of them stands in the object of a word
+abbrev pub has_added_key : List ℕ → Data → Bool
+has_added_key word d = list_any (λ name. list_any (bytes_eq name) (added_keys word)) (member_names d)
+
+-- the object has an added word, or a key that is added to those of its word
 abbrev pub has_addition : Data → Bool
 has_addition d =
-    list_any (λ name. list_any (bytes_eq name) added_keys) (member_names d)
-    || option_map_or (λ word. list_any (bytes_eq word) added_words) (text_at (codes "do") d) false
+    option_map_or (λ word. list_any (bytes_eq word) added_words || has_added_key word d) (text_at (codes "do") d) false
 
 -- one of them stands in the bytes
 abbrev pub adds : List ℕ → Bool

@@ -69,7 +69,8 @@ word_row word.Receive = book_row key.Branch (codes "receive") (key.Id ∷ key.Br
 word_row word.Lock = book_row key.Branch (codes "lock") (key.Branch ∷ key.Day ∷ []) []
 word_row word.Close = book_row key.Branch (codes "close") (key.Branch ∷ key.Day ∷ []) (key.Accounts ∷ key.Into ∷ [])
 word_row word.Balance = report_row (codes "balance") (key.Branch ∷ key.Day ∷ []) [] (key.Branch ∷ key.Day ∷ [])
-word_row word.Register = report_row (codes "register") (key.Branch ∷ key.Account ∷ []) (key.Tag ∷ []) (key.Branch ∷ [])
+word_row word.Register = report_row (codes "register") (key.Branch ∷ key.Account ∷ []) (key.Tag ∷ key.From ∷ [])
+    (key.Branch ∷ [])
 word_row word.Transit = report_row (codes "transit") (key.Day ∷ []) [] (key.Day ∷ [])
 word_row word.Journal = report_row (codes "journal") (key.Branch ∷ []) [] (key.Branch ∷ [])
 word_row word.Branches = report_row (codes "branches") [] [] []
@@ -92,6 +93,12 @@ further w = (word_row w).further
 -- the keys of each path by which it is asked for
 abbrev pub paths : Word → List (List Key)
 paths w = (word_row w).paths
+
+-- whether what its request has at a key is a day
+abbrev pub is_day_key : Word → Key → Bool
+is_day_key w key.Day = true
+is_day_key word.Register key.From = true
+is_day_key w k = false
 
 -- whether a word is a command, and on whose book, or a report
 abbrev pub word_kind : Word → WordKind

@@ -4,16 +4,18 @@ ghost use Rattle.std.specs.Prelude.{◌≡◌, IfOk, find, option_copied, option
 ghost use Rattle.std.specs.Result.{IsOkUnless};
 ghost use Rattle.serde_json.specs.View.{view};
 ghost use Rattle.treasury_requests.specs.Words.{all_words, is_word_named};
-ghost use Rattle.treasury_requests.specs.Keys.{lacks_key, is_odd};
+ghost use Rattle.treasury_requests.specs.Keys.{given_in, keys_of, lacks_key, is_odd};
+ghost use Rattle.treasury_requests.specs.Request.{is_undated};
 ghost use Rattle.treasury_requests.specs.RequestFault.{kind_of_data, odd_kind_at, missing_fault, odd_fault_in};
 ghost use Rattle.treasury_requests.specs.RequestFault.{odd_fault, date_fault, half_fault, choice_fault, own_text_at};
 ghost use Rattle.treasury_requests.specs.RequestFault.{count_fault, keys_fault, word_fault, value_fault};
 ghost use Rattle.treasury_requests.specs.RequestFault.{IsFirstRequestFault};
 
+use crate::fields::{Fields, first_undated};
 use crate::keys::{has_key, is_odd, may_have, other_key, text_at};
 use crate::reading::{spelled_in, yes_or_no};
 use crate::words::{Key, Word, word_named};
-use journal_lines::{read_count, read_date};
+use journal_lines::read_count;
 use money_core::{Cause, Text};
 use serde_json::Value;
 use std::alloc::Global;
@@ -68,8 +70,9 @@ pub enum RequestFault {
         key: Key,
         kind: Kind,
     },
-    /// The value of `day` is no date.
+    /// The value of the key of a day is no date.
     NoDate {
+        key: Key,
         text: Text,
     },
     /// Of `part` and `amount` one is there without the other. If the request also has a key that it may not have, that
@@ -198,20 +201,31 @@ fn own_text_at<'a>(value: &'a Value, word: Word, key: Key) -> Option<&'a str>
     }
 }
 
-/// Its day is no date.
+/// The first of its days that is no date.
+fn undated_key(value: &Value, word: Word) -> Option<Key>
+    ensures { result ≡ find (is_undated word (given_in (view value.now))) (keys_of word) }
+{
+    let row = word.row();
+    match first_undated(value, word, row.needed) {
+        Some(key) => Some(key),
+        None => first_undated(value, word, row.further),
+    }
+}
+
+/// One of its days is no date.
 fn date_fault(alloc: Global, value: &Value, word: Word) -> Result<Option<RequestFault>, Cause>
     ensures value { IfOk result (λ fault. fault ≡ date_fault word (view value.now)) }
     ensures memory { IsOkUnless result Cause.OutOfMemory }
 {
-    let Some(text) = own_text_at(value, word, Key::Day) else {
+    let Some(key) = undated_key(value, word) else {
         return Ok(None);
     };
-    match read_date(text.as_bytes()) {
-        Some(_) => Ok(None),
-        None => {
+    match value.text(key) {
+        Some(text) => {
             let text = Text::of(alloc, text)?;
-            Ok(Some(RequestFault::NoDate { text }))
+            Ok(Some(RequestFault::NoDate { key, text }))
         }
+        None => Ok(None),
     }
 }
 

@@ -1,14 +1,15 @@
-//! The request of a word, by what is given at its keys.
+//! What is given at the keys of a request, how each is read, and what a word lacks.
 
-ghost use Rattle.std.specs.Prelude.{◌≡◌, ◌⊎◌, List, ℕ, Option, Some, None, Err, IfOk, IfErr, option_map, not, is_some};
+ghost use Rattle.std.specs.Prelude.{◌≡◌, ◌⊎◌, List, ℕ, Option, Some, None, Err, IfOk, IfErr, IfSome, option_map, not};
+ghost use Rattle.std.specs.Prelude.{is_some, find};
 ghost use Rattle.std.specs.List.{list_any};
 ghost use Rattle.journal_lines.specs.Date.{IsDayNumber};
 ghost use Rattle.treasury_requests.specs.declared.words.Key.{Key};
-ghost use Rattle.treasury_requests.specs.Request.{day_by, part_by, request_by, HasDayNumbers};
+ghost use Rattle.treasury_requests.specs.Request.{day_by, further_day, is_undated, part_by, request_by, HasDayNumbers};
 ghost use Rattle.treasury_requests.specs.Lacking.{is_missing, is_half};
 
 use crate::bytes::Bytes;
-use crate::request::{Request, WrittenPart};
+use crate::request::WrittenPart;
 use crate::words::{Key, Word};
 use journal_lines::read_date;
 use money_core::{Cause, Day, Text};
@@ -25,7 +26,7 @@ pub trait Fields {
 }
 
 /// The text at a key that has to be there.
-fn needed<F: Fields>(alloc: Global, fields: &F, key: Key) -> Result<Text, Cause>
+pub(crate) fn needed<F: Fields>(alloc: Global, fields: &F, key: Key) -> Result<Text, Cause>
     ensures ok { IfOk result (λ text. F.given fields.now key ≡ Some text) }
     ensures refused { result ≡ Err Cause.Request → F.given fields.now key ≡ None }
     ensures causes { IfErr result (λ cause. (cause ≡ Cause.Request) ⊎ (cause ≡ Cause.OutOfMemory)) }
@@ -37,7 +38,7 @@ fn needed<F: Fields>(alloc: Global, fields: &F, key: Key) -> Result<Text, Cause>
 }
 
 /// The text at a key that may be there.
-fn further<F: Fields>(alloc: Global, fields: &F, key: Key) -> Result<Option<Text>, Cause>
+pub(crate) fn further<F: Fields>(alloc: Global, fields: &F, key: Key) -> Result<Option<Text>, Cause>
     ensures ok { IfOk result (λ text. F.given fields.now key ≡ text) }
     ensures causes { IfErr result (λ cause. cause ≡ Cause.OutOfMemory) }
 {
@@ -51,7 +52,7 @@ fn further<F: Fields>(alloc: Global, fields: &F, key: Key) -> Result<Option<Text
 }
 
 /// The bytes of the journal, which has to be there.
-fn journal<F: Fields>(alloc: Global, fields: &F) -> Result<Bytes, Cause>
+pub(crate) fn journal<F: Fields>(alloc: Global, fields: &F) -> Result<Bytes, Cause>
     ensures ok { IfOk result (λ bytes. F.given fields.now Key.Journal ≡ Some bytes) }
     ensures refused { result ≡ Err Cause.Request → F.given fields.now Key.Journal ≡ None }
     ensures causes { IfErr result (λ cause. (cause ≡ Cause.Request) ⊎ (cause ≡ Cause.OutOfMemory)) }
@@ -63,7 +64,7 @@ fn journal<F: Fields>(alloc: Global, fields: &F) -> Result<Bytes, Cause>
 }
 
 /// The day, which has to be there.
-fn day<F: Fields>(fields: &F) -> Result<Day, Cause>
+pub(crate) fn day<F: Fields>(fields: &F) -> Result<Day, Cause>
     ensures ok { IfOk result (λ day. day_by (F.given fields.now) ≡ Some day) }
     ensures range { IfOk result IsDayNumber }
     ensures refused { result ≡ Err Cause.Request → day_by (F.given fields.now) ≡ None }
@@ -78,8 +79,24 @@ fn day<F: Fields>(fields: &F) -> Result<Day, Cause>
     }
 }
 
+/// The day at a key that may be there.
+pub(crate) fn further_day<F: Fields>(fields: &F, key: Key) -> Result<Option<Day>, Cause>
+    ensures ok { IfOk result (λ day. further_day (F.given fields.now key) ≡ Some day) }
+    ensures range { IfOk result (λ day. IfSome day IsDayNumber) }
+    ensures refused { result ≡ Err Cause.Request → further_day (F.given fields.now key) ≡ None }
+    ensures causes { IfErr result (λ cause. cause ≡ Cause.Request) }
+{
+    let Some(text) = fields.text(key) else {
+        return Ok(None);
+    };
+    match read_date(text.as_bytes()) {
+        Some(day) => Ok(Some(day)),
+        None => Err(Cause::Request),
+    }
+}
+
 /// The part, if one is given: its key and its amount are both there, or neither.
-fn part<F: Fields>(alloc: Global, fields: &F) -> Result<Option<WrittenPart>, Cause>
+pub(crate) fn part<F: Fields>(alloc: Global, fields: &F) -> Result<Option<WrittenPart>, Cause>
     ensures ok { IfOk result (λ part. part_by (F.given fields.now) ≡ Some part) }
     ensures refused { result ≡ Err Cause.Request → part_by (F.given fields.now) ≡ None }
     ensures causes { IfErr result (λ cause. (cause ≡ Cause.Request) ⊎ (cause ≡ Cause.OutOfMemory)) }
@@ -90,74 +107,6 @@ fn part<F: Fields>(alloc: Global, fields: &F) -> Result<Option<WrittenPart>, Cau
         (None, None) => Ok(None),
         (Some(key), Some(amount)) => Ok(Some(WrittenPart { key, amount })),
         _ => Err(Cause::Request),
-    }
-}
-
-/// The request of a word, by what is given at its keys.
-///
-/// 44 comes only where it lacks a key, where its day is no date, or where of a part only the key or the amount is
-/// given; 40 comes where there is no memory.
-pub fn request_by<F: Fields>(alloc: Global, word: Word, fields: &F) -> Result<Request, Cause>
-    ensures ok { IfOk result (λ request. request_by word (F.given fields.now) ≡ Some request) }
-    ensures days { IfOk result HasDayNumbers }
-    ensures refused { result ≡ Err Cause.Request → request_by word (F.given fields.now) ≡ None }
-    ensures causes { IfErr result (λ cause. (cause ≡ Cause.Request) ⊎ (cause ≡ Cause.OutOfMemory)) }
-{
-    match word {
-        Word::Branch => Ok(Request::Branch {
-            name: needed(alloc, fields, Key::Name)?,
-        }),
-        Word::Commodity => Ok(Request::Commodity {
-            sample: needed(alloc, fields, Key::Sample)?,
-        }),
-        Word::Import => Ok(Request::Import {
-            branch: needed(alloc, fields, Key::Branch)?,
-            journal: journal(alloc, fields)?,
-        }),
-        Word::Dispatch => Ok(Request::Dispatch {
-            id: needed(alloc, fields, Key::Id)?,
-            from: needed(alloc, fields, Key::From)?,
-            to: needed(alloc, fields, Key::To)?,
-            day: day(fields)?,
-            amount: needed(alloc, fields, Key::Amount)?,
-            account: needed(alloc, fields, Key::Account)?,
-        }),
-        Word::Receive => Ok(Request::Receive {
-            part: part(alloc, fields)?,
-            id: needed(alloc, fields, Key::Id)?,
-            branch: needed(alloc, fields, Key::Branch)?,
-            day: day(fields)?,
-            account: needed(alloc, fields, Key::Account)?,
-        }),
-        Word::Lock => Ok(Request::Lock {
-            branch: needed(alloc, fields, Key::Branch)?,
-            day: day(fields)?,
-        }),
-        Word::Close => Ok(Request::Close {
-            branch: needed(alloc, fields, Key::Branch)?,
-            day: day(fields)?,
-            accounts: further(alloc, fields, Key::Accounts)?,
-            into: further(alloc, fields, Key::Into)?,
-        }),
-        Word::Balance => Ok(Request::Balance {
-            branch: needed(alloc, fields, Key::Branch)?,
-            day: day(fields)?,
-        }),
-        Word::Register => Ok(Request::Register {
-            branch: needed(alloc, fields, Key::Branch)?,
-            account: needed(alloc, fields, Key::Account)?,
-            tag: further(alloc, fields, Key::Tag)?,
-        }),
-        Word::Transit => Ok(Request::Transit { day: day(fields)? }),
-        Word::Journal => Ok(Request::Journal {
-            branch: needed(alloc, fields, Key::Branch)?,
-        }),
-        Word::Branches => Ok(Request::Branches),
-        Word::Commodities => Ok(Request::Commodities),
-        Word::Accounts => Ok(Request::Accounts {
-            branch: needed(alloc, fields, Key::Branch)?,
-        }),
-        Word::Transfers => Ok(Request::Transfers { day: day(fields)? }),
     }
 }
 
@@ -178,6 +127,25 @@ fn is_one_missing<F: Fields>(fields: &F, keys: &[Key]) -> bool
     keys.iter().any(|key| is_missing(fields, *key))
 }
 
+/// Whether what is given at the key of a day is no date.
+fn is_undated<F: Fields>(fields: &F, word: Word, key: Key) -> bool
+    ensures { result ≡ is_undated word (F.given fields.now) key }
+{
+    match fields.text(key) {
+        Some(text) => word.has_day_at(key) && read_date(text.as_bytes()).is_none(),
+        None => false,
+    }
+}
+
+/// The first of some keys of days at which no date is given.
+pub(crate) fn first_undated<F: Fields>(fields: &F, word: Word, keys: &[Key]) -> Option<Key>
+    ensures { result ≡ find (is_undated word (F.given fields.now)) keys.now }
+{
+    keys.iter()
+        .copied()
+        .find(|key| is_undated(fields, word, *key))
+}
+
 /// Whether of a part only the key or the amount is given.
 fn is_half<F: Fields>(fields: &F) -> bool
     ensures { result ≡ is_half (F.given fields.now) }
@@ -191,5 +159,8 @@ pub fn lacks<F: Fields>(word: Word, fields: &F) -> bool
     ensures { result ≡ not (is_some (request_by word (F.given fields.now))) }
 {
     let is_receipt = matches!(word, Word::Receive);
-    (is_receipt && is_half(fields)) || is_one_missing(fields, word.row().needed)
+    let row = word.row();
+    (is_receipt && is_half(fields))
+        || first_undated(fields, word, row.further).is_some()
+        || is_one_missing(fields, row.needed)
 }

@@ -13,8 +13,8 @@ mod words;
 
 pub use bytes::Bytes;
 pub use fault::{Kind, RequestFault, fault_of};
-pub use fields::{Fields, lacks, request_by};
+pub use fields::{Fields, lacks};
 pub use given::{Given, key_named};
 pub use reading::{read_command, read_line};
-pub use request::{Request, Spelled, Terms, WrittenPart};
+pub use request::{KeyValue, Request, Spelled, Terms, WrittenPart, request_by};
 pub use words::{Key, Row, Word, WordKind, all_words, word_named};

@@ -5,9 +5,9 @@ ghost use Rattle.serde_json.specs.View.{view};
 ghost use Rattle.treasury_requests.specs.Request.{yes_or_no, terms_by, word_in, request_of, spelled, HasDayNumbers};
 ghost use Rattle.treasury_requests.specs.Required.{KeepsRequired};
 
-use crate::fields::{Fields, request_by};
+use crate::fields::Fields;
 use crate::keys::{has_form, text_at};
-use crate::request::{Spelled, Terms};
+use crate::request::{Spelled, Terms, request_by};
 use crate::words::{Key, Word, word_named};
 use journal_lines::read_count;
 use money_core::Cause;

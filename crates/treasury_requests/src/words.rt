@@ -2,7 +2,7 @@
 
 ghost use Rattle.std.specs.Prelude.{◌≡◌, Some, find, map};
 ghost use Rattle.treasury_requests.specs.Words.{key_name, word_name, needed, further, paths, word_kind};
-ghost use Rattle.treasury_requests.specs.Words.{is_word_named, all_words};
+ghost use Rattle.treasury_requests.specs.Words.{is_word_named, all_words, is_day_key};
 
 /// What a request asks for: a value of `do`.
 #[derive(Clone, Copy, Debug, Drop)]
@@ -202,7 +202,7 @@ impl Word {
             Word::Register => &Row {
                 name: "register",
                 needed: &[Key::Branch, Key::Account],
-                further: &[Key::Tag],
+                further: &[Key::Tag, Key::From],
                 paths: &[&[Key::Branch]],
                 kind: WordKind::Report,
             },
@@ -249,6 +249,13 @@ impl Word {
                 kind: WordKind::Report,
             },
         }
+    }
+
+    /// Whether what its request has at a key is a day.
+    pub fn has_day_at(self, key: Key) -> bool
+        ensures { result ≡ is_day_key self key }
+    {
+        matches!((self, key), (_, Key::Day) | (Word::Register, Key::From))
     }
 }
 

@@ -86,6 +86,7 @@ refused. MARK is 1 to 100 letters, digits or -._: (with anything else the line i
         below: r#"Examples:
   treasury register --db books.db --branch north --account assets:bank
   treasury register --db books.db --branch north --account expenses --tag project=hall
+  treasury register --db books.db --branch north --account assets:cash --from 2024-03-01
 
 The account's subaccounts are included."#,
     },
@@ -168,8 +169,9 @@ chooses one. After N connections it ends. FILE is in use until then. Routes:
   GET /branches              the branches, with their locks and how many entries they have
   GET /commodities           the commodities, by their samples
   GET /journal/BRANCH        the branch's journal
-  GET /register/BRANCH?account=ACCOUNT&tag=TAG
-                             the postings of the account and its subaccounts, with running sums; `&tag=TAG` may be left out
+  GET /register/BRANCH?account=ACCOUNT&tag=TAG&from=DAY
+                             the postings of the account and its subaccounts, with running sums; `&tag=TAG` and
+                             `&from=DAY` may be left out
   GET /transfers/DAY         the transfers of which something is open through the day
   GET /transit/DAY           what is on its way between branches through the day"#;
 
@@ -199,7 +201,8 @@ Reports:
   {"do":"balance","branch":NAME,"day":DAY}       the branch's balances through the day
   {"do":"register","branch":NAME,"account":ACCOUNT}
                                                  the postings of the account and its subaccounts, with running sums;
-                                                 with "tag":TAG or "tag":"TAG=VALUE" of transactions that have it
+                                                 with "tag":TAG or "tag":"TAG=VALUE" of transactions that have it,
+                                                 with "from":DAY from that day on, and the sums go on from before
   {"do":"transfers","day":DAY}                   the transfers of which something is open through the day, with IDs
   {"do":"transit","day":DAY}                     what is on its way between branches through the day
   {"do":"journal","branch":NAME}                 the branch's journal
@@ -254,6 +257,10 @@ pub fn key_help<'a>(word: Word, key: Key) -> (&'a str, &'a str) {
         (Key::Id, _) => (
             "ID",
             "The transfer: 1 to 64 letters, digits or -._ (one that begins with - as --id=-t7)",
+        ),
+        (Key::From, Word::Register) => (
+            "DAY",
+            "The first day that is shown, such as 2024-03-01; the sums go on from before",
         ),
         (Key::From, _) => ("NAME", "The branch that pays"),
         (Key::To, _) => ("NAME", "The branch that is paid"),

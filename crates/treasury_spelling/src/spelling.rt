@@ -115,19 +115,29 @@ impl Fields for Values<'_, '_> {
     }
 }
 
-/// Whether a text is given for the day, and is no date.
-fn says_no_date(values: &ArgMatches<'_>) -> bool {
-    match value_of(values, "day") {
-        Some(text) => read_date(text.as_bytes()).is_none(),
+/// Whether a text is given at the key of a day, and is no date.
+fn is_undated(word: Word, values: &ArgMatches<'_>, key: Key) -> bool {
+    match value_of(values, key.name()) {
+        Some(text) => word.has_day_at(key) && read_date(text.as_bytes()).is_none(),
         None => false,
     }
+}
+
+/// Whether one is given for a day of a word.
+fn says_no_date(word: &str, values: &ArgMatches<'_>) -> bool {
+    let Some(word) = word_named(word) else {
+        return false;
+    };
+    let row = word.row();
+    row.needed.iter().any(|key| is_undated(word, values, *key))
+        || row.further.iter().any(|key| is_undated(word, values, *key))
 }
 
 /// Why a word asks for nothing, by its values.
 pub fn fault_of(word: &str, values: &ArgMatches<'_>) -> &'static str {
     let has_part = value_of(values, "part").is_some();
     let has_amount = value_of(values, "amount").is_some();
-    if says_no_date(values) {
+    if says_no_date(word, values) {
         "the day is not a date; dates are written as 2024-12-31"
     } else if word == "receive" && has_part != has_amount {
         "a part needs its key and its amount; only one of them is given"

@@ -2,7 +2,7 @@ use Rattle.std.proofs.Common.{◌∙◌, [], List, ap, option_copied}
 use Rattle.money_core.specs.declared.style.Style.{Style}
 use Rattle.treasury_state.specs.declared.record.Record.{Record}
 use Rattle.treasury_state.proofs.OpenLemmas.{good_records}
-use Rattle.treasury_reports.specs.RegisterReport.{register_rows, rows_behind, by_day, listed_from}
+use Rattle.treasury_reports.specs.RegisterReport.{register_rows, summed_behind, rows_since, by_day, listed_from}
 use Rattle.treasury_reports.specs.Written.{rows_in}
 use Rattle.treasury_reports.proofs.RegisterLemmas.{room_of}
 use Rattle.treasury_reports.proofs.RowLemmas.{appended_rows}
@@ -23,9 +23,10 @@ returns-in-Ok-clause-ok g c =
     let account = c.args.account.now in
     let tag = option_copied c.args.tag in
     let layout = c.args.layout in
-    let listed = λ (rs : List Record). by_day (listed_from account tag 1 rs) in
-    appended_rows layout c.push_written.result _ _ _ (register_rows f c.args.branch.now account tag)
+    let from = c.args.from in
+    let listed = λ (rs : List Record). summed_behind [] (by_day (listed_from account tag 1 rs)) in
+    appended_rows layout c.push_written.result _ _ _ (register_rows f c.args.branch.now account tag from)
     (c.in-Ok.ensures.ok
-    ∙ ap (λ (ss : List Style). rows_in layout (rows_behind ss [] (listed c.in-Some.records.now))) c.styles.ensures
-    ∙ ap (λ (rs : List Record). rows_in layout (rows_behind f.styles [] (listed rs))) c.in-Some.ensures.1)
+    ∙ ap (λ (ss : List Style). rows_in layout (rows_since ss from (listed c.in-Some.records.now))) c.styles.ensures
+    ∙ ap (λ (rs : List Record). rows_in layout (rows_since f.styles from (listed rs))) c.in-Some.ensures.1)
     c.push_written.ensures.ok

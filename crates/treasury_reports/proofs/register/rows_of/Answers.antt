@@ -22,8 +22,8 @@ add_to-sum-requires-clause-small c =
     subst (λ (z : ℤ). unsigned_abs z ≤ limit) (sym is)
     (within_abs _ (sum_within all i x c.requires.room c.lines-test.true c.one-item.is))
 
-pub push_listed-requires-clause-sum : goal.push_listed-requires-clause-sum
-push_listed-requires-clause-sum c =
+pub push_since-requires-clause-sum : goal.push_since-requires-clause-sum
+push_since-requires-clause-sum c =
     let x = c.one-item.result in
     let all = c.args.all.now in
     let i = c.lines.one-index in
@@ -56,7 +56,6 @@ lines-preserved c =
           (sym (take_with_next all i x c.lines-test.true c.one-item.is))
           (sums_next styles c.lines.sums.items c.add_to-sum.new.sums.items (take i all) x _ c.add_to-sum.ensures.sums
           c.lines.invariant.wide one.amount.known is c.lines.invariant.sums);
-      rows = rows_next c.args.layout styles all i x _ c.lines.rows.items c.push_listed.new.rows.items c.lines-test.true
-          c.one-item.is
-          sum c.in_ok-push_listed.ensures.ok c.lines.invariant.rows;
+      rows = rows_next c.args.layout styles c.args.from all i x _ c.lines.rows.items c.push_since.new.rows.items
+          c.lines-test.true c.one-item.is sum c.in_ok-push_since.ensures.ok c.lines.invariant.rows;
     }
