@@ -1,7 +1,7 @@
 -- The object of a request is read as that request.
 use Rattle.std.proofs.Common.{◌≡◌, ◌≤◌, Bool, true, false, None, Some, String, string_bytes, option_and_then}
 use Rattle.std.proofs.Common.{refl, sym, ap, ◌∙◌, ◌<◌, ◌^◌, arith, length, decimal, Option, option_map, nat_lt, nat_le}
-use Rattle.std.proofs.Common.{◌==◌, ◌||◌, ◌&&◌, not, ℕ, suc, List, [], ◌∷◌, IfSome, is_some, bytes_eq, nat_cmp}
+use Rattle.std.proofs.Common.{subst, ◌==◌, ◌||◌, ◌&&◌, not, ℕ, suc, List, [], ◌∷◌, IfSome, is_some, bytes_eq, nat_cmp}
 use Rattle.std.proofs.Common.{Ordering, Less, Equal, Greater}
 use Rattle.std.proofs.Math.Path.{fun_ext}
 use Rattle.std.proofs.lemmas.Slice.Eq.{bytes_eq-Decides}
@@ -43,7 +43,7 @@ use Rattle.treasury_requests.specs.Request.{request_by, word_of, given_of, is_re
 use Rattle.treasury_requests.specs.Request.{if_entries_by, spelled_by, word_in, request_of, spelled, HasDayNumbers}
 use Rattle.treasury_requests.proofs.RequestLemmas.{spelled-utf8}
 use Rattle.treasury_requests.proofs.TableLemmas.{request_by-given_of}
-use Rattle.treasury_client.specs.Sending.{IsSendable}
+use Rattle.treasury_client.specs.Sending.{IsSendable, HasText}
 use Rattle.treasury_client.specs.Parts.{with_text, with_optional, with_keys, with_request, dry_run_text, with_dry_run}
 use Rattle.treasury_client.specs.Parts.{with_terms, object_of}
 
@@ -324,3 +324,10 @@ not_text bytes lacks = by_test (is_utf8 bytes) refl where
   by_test : (t : Bool) → is_utf8 bytes ≡ t → t ≡ false
   by_test true e = absurd (lacks (IsUtf8-from_is_utf8 bytes e))
   by_test false e = refl
+
+-- what a request that has a text has at the key of a journal is a text
+pub journal_is_text : (request : Request) (k : Key) (journal : List ℕ) → Some journal ≡ given_of request k
+    → k ≡ key.Journal → HasText request → is_utf8 journal ≡ true
+journal_is_text request k journal given at has =
+    subst (λ (o : Option (List ℕ)). IfSome o (λ bytes. is_utf8 bytes ≡ true))
+    (sym (given ∙ ap (given_of request) at)) has
