@@ -1,4 +1,4 @@
-use Rattle.std.proofs.Common.{◌∙◌, arith, None, length, length-take, ap, sym}
+use Rattle.std.proofs.Common.{◌∙◌, ◌-◌, arith, None, length, length-take, ap, sym}
 use Rattle.treasury_api.proofs.BesideLemmas.{done_as, noted_as, said_there}
 use Rattle.treasury_api.proofs.JsonLemmas.{told_of}
 use Rattle.treasury_api.proofs.web.object.done_in_json.Goals as goal
