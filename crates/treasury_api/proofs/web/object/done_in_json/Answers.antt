@@ -8,7 +8,7 @@ done_object-requires-clause-line g c =
     let s = c.requires.short (sym c.is_report.ensures ∙ c.if-is_report.false) in
     let t = ap length c.as_slice.ensures.value in
     let e = ap length c.line_of.ensures in
-    let k = length-take c.as_slice.result.now (length c.as_slice.result.now - 1) in
+    let k = length-take (length c.as_slice.result.now - 1) c.as_slice.result.now in
     omega (arith, s, t, e, k)
 
 pub returns-clause-other : goal.returns-clause-other
