@@ -11,4 +11,5 @@ returns-in-Ok c =
 
 pub returns-in-Err : goal.returns-in-Err
 returns-in-Err c =
-    memory_line c.args.styles.now c.args.refusal _ c.in_default.not-Plain c.plain-in-Err.ensures.text
+    rw c.plain-in-Err.ensures.cause (memory_line c.args.styles.now c.args.refusal _ c.in_default.not-Plain
+    c.plain-in-Err.ensures.text)
