@@ -394,84 +394,84 @@ has_served_one (Err cause) g remaining r0 r1 contents w0 w1 old new fails =
 
 abbrev served_then : (start : Standing) (calls : List AnsweredCall) (mid : Standing) (more : List AnsweredCall)
     (end : Standing) → AreServed start calls mid → AreServed mid more end → AreServed start (calls ++ more) end
-served_then start [] mid more end first then = subst (λ (s : Standing). AreServed s more end) first then
-served_then start (c ∷ cs) mid more end (next, answers, rest) then =
-    (next, answers, served_then next cs mid more end rest then)
+served_then start [] mid more end first second = subst (λ (s : Standing). AreServed s more end) first second
+served_then start (c ∷ cs) mid more end (next, answers, rest) second =
+    (next, answers, served_then next cs mid more end rest second)
 
 -- one of the first fails
 fails_first : (Holds : Federation → Result Asked Refusal → Type 0) (start : Standing) (calls : List AnsweredCall)
     (mid : Standing) (more : List AnsweredCall) (end : Standing) (first : AreServed start calls mid)
-    (then : AreServed mid more end) → OneFails Holds start calls mid first
-    → OneFails Holds start (calls ++ more) end (served_then start calls mid more end first then)
-fails_first Holds start [] mid more end first then none = absurd none
-fails_first Holds start (c ∷ cs) mid more end (next, inl nothing, rest) then fails =
-    fails_first Holds next cs mid more end rest then fails
-fails_first Holds start (c ∷ cs) mid more end (next, inr (request, asks, (reply, (answers, told))), rest) then
+    (second : AreServed mid more end) → OneFails Holds start calls mid first
+    → OneFails Holds start (calls ++ more) end (served_then start calls mid more end first second)
+fails_first Holds start [] mid more end first second none = absurd none
+fails_first Holds start (c ∷ cs) mid more end (next, inl nothing, rest) second fails =
+    fails_first Holds next cs mid more end rest second fails
+fails_first Holds start (c ∷ cs) mid more end (next, inr (request, asks, (reply, (answers, told))), rest) second
     (inl here) = inl here
-fails_first Holds start (c ∷ cs) mid more end (next, inr (request, asks, (reply, (answers, told))), rest) then
-    (inr behind) = inr (fails_first Holds next cs mid more end rest then behind)
+fails_first Holds start (c ∷ cs) mid more end (next, inr (request, asks, (reply, (answers, told))), rest) second
+    (inr behind) = inr (fails_first Holds next cs mid more end rest second behind)
 
 -- or one of the others
 fails_then : (Holds : Federation → Result Asked Refusal → Type 0) (start : Standing) (calls : List AnsweredCall)
     (mid : Standing) (more : List AnsweredCall) (end : Standing) (first : AreServed start calls mid)
-    (then : AreServed mid more end) → OneFails Holds mid more end then
-    → OneFails Holds start (calls ++ more) end (served_then start calls mid more end first then)
-fails_then Holds start [] mid more end first then fails =
+    (second : AreServed mid more end) → OneFails Holds mid more end second
+    → OneFails Holds start (calls ++ more) end (served_then start calls mid more end first second)
+fails_then Holds start [] mid more end first second fails =
     path_j (λ (s : Standing) (is : mid ≡ s). OneFails Holds s more end (subst (λ (x : Standing). AreServed x more end)
-    is then))
+    is second))
     (subst (λ (served : AreServed mid more end). OneFails Holds mid more end served)
-    (sym (subst_refl (λ (x : Standing). AreServed x more end) then)) fails) first
-fails_then Holds start (c ∷ cs) mid more end (next, inl nothing, rest) then fails =
-    fails_then Holds next cs mid more end rest then fails
-fails_then Holds start (c ∷ cs) mid more end (next, inr (request, asks, (reply, (answers, told))), rest) then fails =
-    inr (fails_then Holds next cs mid more end rest then fails)
+    (sym (subst_refl (λ (x : Standing). AreServed x more end) second)) fails) first
+fails_then Holds start (c ∷ cs) mid more end (next, inl nothing, rest) second fails =
+    fails_then Holds next cs mid more end rest second fails
+fails_then Holds start (c ∷ cs) mid more end (next, inr (request, asks, (reply, (answers, told))), rest) second fails =
+    inr (fails_then Holds next cs mid more end rest second fails)
 
--- what some leave, and then others
+-- what some leave, and second others
 leaves_then : {S : Type 0} (g : Ghosts S) (old mid new : Treasury S) (start : Standing) (calls : List AnsweredCall)
     (middle : Standing) (more : List AnsweredCall) (end : Standing) (first : AreServed start calls middle)
-    (then : AreServed middle more end) → (IsTrue mid.store.failed → new ≡ mid)
-    → LeavesCalls g old mid start calls middle first → LeavesCalls g mid new middle more end then
-    → LeavesCalls g old new start (calls ++ more) end (served_then start calls middle more end first then)
-leaves_then {S = S} g old mid new start calls middle more end first then closed one two is_open unfailed =
+    (second : AreServed middle more end) → (IsTrue mid.store.failed → new ≡ mid)
+    → LeavesCalls g old mid start calls middle first → LeavesCalls g mid new middle more end second
+    → LeavesCalls g old new start (calls ++ more) end (served_then start calls middle more end first second)
+leaves_then {S = S} g old mid new start calls middle more end first second closed one two is_open unfailed =
     elim (one is_open unfailed) [
       | inl still ↦ elim (two still.0 still.1) [
         | inl last ↦ inl last
         | inr fails ↦ inr (
           fails.0,
-          fails_then (LeavesAsked g new.store.conn) start calls middle more end first then fails.1,
+          fails_then (LeavesAsked g new.store.conn) start calls middle more end first second fails.1,
         )
       ]
       | inr fails ↦ (
           let same : mid ≡ new = sym (closed fails.0) in
           inr (
             subst (λ (t : Treasury S). IsTrue t.store.failed) same fails.0,
-            fails_first (LeavesAsked g new.store.conn) start calls middle more end first then
+            fails_first (LeavesAsked g new.store.conn) start calls middle more end first second
                 (subst (λ (t : Treasury S). OneFails (LeavesAsked g t.store.conn) start calls middle first) same
                 fails.1),
           ))
     ]
 
--- some, and then others
+-- some, and second others
 pub has_served_more : {S : Type 0} (g : Ghosts S) (old mid new : Treasury S) → HasServed g old mid → HasServed g mid new
     → HasServed g old new
-has_served_more {S = S} g old mid new first then = record {
-  calls = first.calls ++ then.calls;
-  clean = λ k. first.clean (then.clean k);
+has_served_more {S = S} g old mid new first second = record {
+  calls = first.calls ++ second.calls;
+  clean = λ k. first.clean (second.clean k);
   served = λ k f of.
-      let one = first.served (then.clean k) f of in
-      let two = then.served k one.0 one.1.0 in (
+      let one = first.served (second.clean k) f of in
+      let two = second.served k one.0 one.1.0 in (
         two.0,
         (
           two.1.0,
           (
-            served_then (standing old f) first.calls (standing mid one.0) then.calls (standing new two.0) one.1.1.0
+            served_then (standing old f) first.calls (standing mid one.0) second.calls (standing new two.0) one.1.1.0
                 two.1.1.0,
-            leaves_then g old mid new (standing old f) first.calls (standing mid one.0) then.calls (standing new two.0)
-                one.1.1.0 two.1.1.0 then.closed one.1.1.1 two.1.1.1,
+            leaves_then g old mid new (standing old f) first.calls (standing mid one.0) second.calls (standing new two.0)
+                one.1.1.0 two.1.1.0 second.closed one.1.1.1 two.1.1.1,
           ),
         ),
       );
   closed = λ failed.
       let same = first.closed failed in
-      then.closed (subst (λ (t : Treasury S). IsTrue t.store.failed) (sym same) failed) ∙ same;
+      second.closed (subst (λ (t : Treasury S). IsTrue t.store.failed) (sym same) failed) ∙ same;
 }

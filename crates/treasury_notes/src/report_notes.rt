@@ -43,7 +43,11 @@ fn say_no_account<'a, L: Ledger>(
     }
     let name = branch.name.as_str().as_bytes();
     let mut message = Message::new(*out.allocator(), MessageKind::NoSuchAccount);
-    message.add(&[Words(b"no entry of "), Piece::Text(name), Words(b" is on '")])?;
+    message.add(&[
+        Words(b"no entry of "),
+        Piece::Text(name),
+        Words(b" is on '"),
+    ])?;
     message.add(&[Piece::Text(account.as_bytes()), Words(b"' or below it")])?;
     message.say(out)
 }

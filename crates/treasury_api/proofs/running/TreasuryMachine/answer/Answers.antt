@@ -26,8 +26,8 @@ returns-in-Ok-end_report g c =
     c.answer_ahead.result xs c.answer_ahead.new.out.items) c.new-text.ensures.items
     (c.answer_ahead.ensures.replies k f of)) c.in-Ok-end_report.ensures.ok
 
-pub returns-in-Err-end_report : goal.returns-in-Err-end_report
-returns-in-Err-end_report g c =
+pub returns-in-Ok-answer_ahead : goal.returns-in-Ok-answer_ahead
+returns-in-Ok-answer_ahead g c =
     served_memory g.S.Store c.args.self.now c.answer_ahead.new.treasury c.args.line.now c.answer_ahead.new.out.items _
     c.in-Ok.request c.answer_ahead.result c.in-Ok-answer_ahead.field-0
     c.in-Ok.ensures.ok c.in-Ok-answer_ahead.is
@@ -41,8 +41,8 @@ returns-in-Err-end_report g c =
     c.answer_ahead.result xs c.answer_ahead.new.out.items) c.new-text.ensures.items
     (c.answer_ahead.ensures.replies k f of)) c.in-Err-end_report.ensures.err c.refuse-in-Err-end_report.ensures
 
-pub returns-in-Err-answer_ahead : goal.returns-in-Err-answer_ahead
-returns-in-Err-answer_ahead g c =
+pub returns : goal.returns
+returns g c =
     served_refusal g.S.Store c.args.self.now c.answer_ahead.new.treasury c.args.line.now c.answer_ahead.new.out.items _
     c.in-Ok.request c.answer_ahead.result c.in-Err-answer_ahead.refusal
     c.in-Ok.ensures.ok c.in-Err-answer_ahead.is

@@ -15,18 +15,18 @@ returns-in-Text-clause-ok g c =
     c.answer_in_text.ensures.leaves)
 
 pub returns-in-Text-clause-form : goal.returns-in-Text-clause-form
-returns-in-Text-clause-form g c = rw c.in-Text.is (c.answer_in_text.ensures.form ∙ text_form _)
+returns-in-Text-clause-form g c = rw c.in-Text.is (c.answer_in_text.ensures.form ∙ text_form (code_of c.answer_in_text.result.status))
 
-pub returns-in-Json-clause-ok : goal.returns-in-Json-clause-ok
-returns-in-Json-clause-ok g c =
+pub returns-in-Ok-Request-clause-ok : goal.returns-in-Ok-Request-clause-ok
+returns-in-Ok-Request-clause-ok g c =
     rw c.in-Json.is (replied _ _ _ c.answer_in_json.result
     (λ reply replies leaves. request_answered g.S.Store c.args.treasury.now c.answer_in_json.new.treasury _
     c.args.received.call c.in-Ok-Request.request (code_of reply.status) (cow_slice_items reply.body)
     (rw c.in-Ok-Request.field-0-is at c.in-Ok-Request.ensures.sought) replies leaves)
     c.answer_in_json.ensures.replies c.answer_in_json.ensures.leaves)
 
-pub returns-in-Json-clause-form : goal.returns-in-Json-clause-form
-returns-in-Json-clause-form g c = rw c.in-Json.is c.answer_in_json.ensures.form
+pub returns-in-Ok-Request-clause-form : goal.returns-in-Ok-Request-clause-form
+returns-in-Ok-Request-clause-form g c = rw c.in-Json.is c.answer_in_json.ensures.form
 
 -- ---- no request
 

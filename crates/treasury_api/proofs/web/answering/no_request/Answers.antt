@@ -11,7 +11,7 @@ returns-in-Text-clause-body c = rw c.in-Text.is (c.plain_reply.ensures.body ∙ 
 pub returns-in-Text-clause-told : goal.returns-in-Text-clause-told
 returns-in-Text-clause-told c json = absurd (let k : form.Text ≡ form.Json = sym c.in-Text.is ∙ json in cc)
 
-pub returns-in-Json-clause-body : goal.returns-in-Json-clause-body
-returns-in-Json-clause-body c =
+pub returns-in_ok-room-in-Json-clause-body : goal.returns-in_ok-room-in-Json-clause-body
+returns-in_ok-room-in-Json-clause-body c =
     rw c.in-Json.is (request_object c.refuse_plain_in_json-object.result.items
     c.refuse_plain_in_json-object.ensures.refused)
