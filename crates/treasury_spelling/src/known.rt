@@ -17,7 +17,7 @@ use std::alloc::{AllocError, Global};
 use treasury_requests::{Key, Word};
 
 /// The version that `--version` shows.
-const VERSION: &str = "0.14.0";
+const VERSION: &str = "0.13.0";
 
 /// An option with a value, which may be given.
 fn optional<'a>(alloc: Global, name: &'a str, value: &'a str, help: &'a str) -> Arg<'a>
