@@ -466,8 +466,8 @@ has_served_more {S = S} g old mid new first second = record {
           (
             served_then (standing old f) first.calls (standing mid one.0) second.calls (standing new two.0) one.1.1.0
                 two.1.1.0,
-            leaves_then g old mid new (standing old f) first.calls (standing mid one.0) second.calls (standing new two.0)
-                one.1.1.0 two.1.1.0 second.closed one.1.1.1 two.1.1.1,
+            leaves_then g old mid new (standing old f) first.calls (standing mid one.0) second.calls
+                (standing new two.0) one.1.1.0 two.1.1.0 second.closed one.1.1.1 two.1.1.1,
           ),
         ),
       );

@@ -15,7 +15,8 @@ returns-in-Text-clause-ok g c =
     c.answer_in_text.ensures.leaves)
 
 pub returns-in-Text-clause-form : goal.returns-in-Text-clause-form
-returns-in-Text-clause-form g c = rw c.in-Text.is (c.answer_in_text.ensures.form ∙ text_form (code_of c.answer_in_text.result.status))
+returns-in-Text-clause-form g c =
+    rw c.in-Text.is (c.answer_in_text.ensures.form ∙ text_form (code_of c.answer_in_text.result.status))
 
 pub returns-in-Ok-Request-clause-ok : goal.returns-in-Ok-Request-clause-ok
 returns-in-Ok-Request-clause-ok g c =
