@@ -18,7 +18,7 @@ MODULE = re.compile(r"(?:pub )?module \S+ ?(.*)")
 LITERAL = re.compile(r'r(#+)".*?"\1|"(?:\\.|[^"\\])*"|\'(?:\\[^\']*|[^\'\\\n])\'|//[^\n]*', re.S)
 STRING = re.compile(r'"(?:\\.|[^"\\])*"')
 CITED = re.compile(rf"(\.?)(?<![\w'])({NAME})(?:\.({NAME}))?(?![\w'-])(?!\s+[:=]\s)")
-FUNCTION = re.compile(r"^( *)(pub(?:\([^)]*\))? )?(?:const )?(?:unsafe )?fn (\w+)", re.M)
+FUNCTION = re.compile(r"^( *)(pub(?:\([^)]*\))? )?(?:const )?(?:final )?(?:unsafe )?fn (\w+)", re.M)
 CLAUSE = re.compile(r"\s*\b(requires|ensures|ghost)\b\*? *(\w*) *:? *\{")
 BLOCK = re.compile(r"^(pub(?:\([^)]*\))? )?(?:unsafe )?(impl|trait)\b", re.M)
 DECLARED = re.compile(r"^(pub(?:\([^)]*\))? )?(struct|enum|trait|type|const|static) (\w+)", re.M)
@@ -222,7 +222,7 @@ class File:
         place = found.end()
         while not re.compile(r"[{;]|\b(?:requires|ensures|ghost)\b").match(self.mask, place):
             place = closing(self.mask, place) if self.mask[place] in "([" else place + 1
-        head = re.sub(r"^ *pub(?:\([^)]*\))? ", "", self.text[found.start() : place])
+        head = re.sub(r"^ *(?:pub(?:\([^)]*\))? )?(?:final )?", "", self.text[found.start() : place])
         clauses = []
         while clause := CLAUSE.match(self.mask, place):
             place = closing(self.mask, clause.end() - 1)

@@ -1,7 +1,6 @@
 //! The entry of a transaction, or why it has none.
 
 ghost use Rattle.std.specs.Prelude.{◌≡◌, Err, ◌⊎◌, ◌∷◌, [], true, false, IfOk};
-ghost use Rattle.std.specs.Result.{IsOkUnless};
 ghost use Rattle.std.specs.List.{list_all, list_any, count_by};
 ghost use Rattle.journal_format.specs.Printable.{is_posting, IsPrintable};
 ghost use Rattle.journal_balance.specs.Legs.{is_without_amount, is_large, posting_legs, legs_among, claims_among};
@@ -13,7 +12,7 @@ use crate::value::cost_fault;
 use book_core::{Entry, Leg, Placed};
 use journal_format::{Posting, Txn};
 use money_core::{Cause, Items, Styles};
-use std::alloc::Global;
+use std::alloc::{AllocError, Global};
 
 /// How many postings have no amount.
 fn open_count(postings: &[Posting]) -> usize
@@ -82,12 +81,11 @@ fn entered(
     alloc: Global,
     postings: &[Posting],
     styles: &Styles,
-) -> Result<(Items<Leg>, Items<Placed>), Cause>
+) -> Result<(Items<Leg>, Items<Placed>), AllocError>
     requires postings { list_all (is_posting styles.now) postings.now ≡ true }
     requires room { list_any is_large (legs_among styles.now postings.now postings.now) ≡ false }
     ensures legs { IfOk result (λ entered. entered.0 ≡ legs_among styles.now postings.now postings.now) }
     ensures claims { IfOk result (λ entered. entered.1 ≡ claims_among styles.now postings.now 1 postings.now) }
-    ensures memory { IsOkUnless result Cause.OutOfMemory }
 {
     let mut legs = Items::empty(alloc);
     let mut claims = Items::empty(alloc);

@@ -10,21 +10,21 @@ ghost use Rattle.journal_lines.specs.AccountName.{is_account};
 ghost use Rattle.journal_balance.specs.Conversion.{lesser, greater, conversion_account};
 
 use money_core::{Cause, Text};
-use std::alloc::Global;
+use std::alloc::{AllocError, Global};
 
 /// Whether the first symbol is less by bytes.
-pub(crate) fn is_less(a: &str, b: &str) -> bool
+fn is_less(a: &str, b: &str) -> bool
     ensures { result ≡ is_lt (name_cmp a.now b.now) }
 {
     a.as_bytes().cmp(b.as_bytes()).is_lt()
 }
 
-/// The account for one side of an exchange, of which the symbols are given in byte order.
-fn account_of(alloc: Global, first: &str, second: &str, own: &str) -> Result<Text, Cause>
-    ensures equal { IfOk result (λ name.
-        name ≡ codes "equity:conversion:" ++ (first.now ++ 45 ∷ (second.now ++ 58 ∷ own.now))) }
-    ensures memory { IsOkUnless result Cause.OutOfMemory }
+/// The account of an exchange of two commodities for one of them, which is the last that is given.
+#[tactic(auto, unfolding(crate::specs::Conversion::conversion_account))]
+pub(crate) fn account_of(alloc: Global, a: &str, b: &str, own: &str) -> Result<Text, AllocError>
+    ensures { IfOk result (λ name. name ≡ conversion_account a.now b.now own.now) }
 {
+    let (first, second) = if is_less(b, a) { (b, a) } else { (a, b) };
     let mut name = String::new(alloc);
     name.push_str("equity:conversion:")?;
     name.push_str(first)?;
@@ -37,7 +37,7 @@ fn account_of(alloc: Global, first: &str, second: &str, own: &str) -> Result<Tex
 
 /// The two accounts of an exchange of two commodities, by their symbols without quotes: the one of the symbol that is
 /// less by bytes comes first. Answers 40 for want of memory.
-#[tactic(auto, unfolding(crate::specs::Conversion::conversion_account), using(crate::proofs::NameLemmas::both_formed))]
+#[tactic(auto, using(crate::proofs::NameLemmas::both_formed))]
 pub fn conversion_accounts(alloc: Global, a: &str, b: &str) -> Result<(Text, Text), Cause>
     ensures first { IfOk result (λ names. names.0 ≡ conversion_account a.now b.now (lesser a.now b.now)) }
     ensures second { IfOk result (λ names. names.1 ≡ conversion_account a.now b.now (greater a.now b.now)) }
@@ -47,7 +47,7 @@ pub fn conversion_accounts(alloc: Global, a: &str, b: &str) -> Result<(Text, Tex
     ensures memory { IsOkUnless result Cause.OutOfMemory }
 {
     let (first, second) = if is_less(b, a) { (b, a) } else { (a, b) };
-    let of_first = account_of(alloc, first, second, first)?;
-    let of_second = account_of(alloc, first, second, second)?;
+    let of_first = account_of(alloc, a, b, first)?;
+    let of_second = account_of(alloc, a, b, second)?;
     Ok((of_first, of_second))
 }

@@ -1,7 +1,6 @@
 //! The posting without an amount takes what is left (hledger manual, "Postings").
 
 ghost use Rattle.std.specs.Prelude.{◌≡◌, ◌≤◌, ◌++◌, pos, neg_ℤ, unsigned_abs, true, false, not, nat_lt, OnOk, OnErr};
-ghost use Rattle.std.specs.Result.{IsOkUnless};
 ghost use Rattle.std.specs.Ordering.{int_eq};
 ghost use Rattle.std.specs.List.{list_all, list_any};
 ghost use Rattle.money_core.specs.Amount.{limit};
@@ -11,7 +10,8 @@ ghost use Rattle.journal_balance.specs.Legs.{rest_leg, rest_legs, is_large, is_e
 use crate::value::sum_of;
 use book_core::Leg;
 use journal_format::Posting;
-use money_core::{Cause, Copied, Items, Styles, Text, Unit};
+use money_core::{Copied, Items, Styles, Text, Unit};
+use std::alloc::AllocError;
 
 /// The greatest quantity of one leg, in smallest units.
 const MAX_LEG: u128 = 10_000_000_000_000_000;
@@ -61,33 +61,32 @@ pub(crate) fn leaves_too_much(postings: &[Posting], account: &Text, styles: &Sty
 }
 
 /// Adds a leg that takes what is left in a commodity, where that is not 0.
-fn push_rest(legs: &mut Items<Leg>, account: &Text, unit: Unit, sum: i128) -> Result<(), Cause>
+fn push_rest(legs: &mut Items<Leg>, account: &Text, unit: Unit, sum: i128) -> Result<(), AllocError>
     requires { unsigned_abs sum ≤ limit }
-    ensures ok { OnOk result (legs.new ≡ legs.old ++ rest_leg account.now unit sum) }
-    ensures memory { IsOkUnless result Cause.OutOfMemory }
+    ensures { OnOk result (legs.new ≡ legs.old ++ rest_leg account.now unit sum) }
 {
     if is_zero(sum) {
         return Ok(());
     }
-    let account = account.copy()?;
-    legs.push(Leg {
+    let account = account.duplicate()?;
+    legs.add(Leg {
         account,
         unit,
         qty: -(sum as i64),
     })
 }
 
-/// Adds the legs that take what is left of all postings, in declared order. After 40 some of them are added.
+/// Adds the legs that take what is left of all postings, in declared order. Where memory is refused, some of them are
+/// added.
 pub(crate) fn push_rest_legs(
     legs: &mut Items<Leg>,
     account: &Text,
     postings: &[Posting],
     styles: &Styles,
-) -> Result<(), Cause>
+) -> Result<(), AllocError>
     requires postings { list_all (is_posting styles.now) postings.now ≡ true }
     requires room { list_any is_large (rest_legs styles.now account.now postings.now) ≡ false }
-    ensures ok { OnOk result (legs.new ≡ legs.old ++ rest_legs styles.now account.now postings.now) }
-    ensures memory { IsOkUnless result Cause.OutOfMemory }
+    ensures { OnOk result (legs.new ≡ legs.old ++ rest_legs styles.now account.now postings.now) }
 {
     styles.are_styles();
     for number in 0..styles.len() {

@@ -64,10 +64,7 @@ fn agrees(styles: &Styles, unit: Unit, sample: &Style) -> bool
 fn sampled(alloc: Global, styles: &Styles, text: &str) -> Result<Unit, Cause>
     ensures { IsUnlessMemory result (sampled styles.now (style_of text.now)) }
 {
-    let sample = match read_style(alloc, text) {
-        Ok(sample) => sample,
-        Err(cause) => return Err(cause),
-    };
+    let sample = read_style(alloc, text)?;
     let Some(unit) = styles.find(sample.symbol.as_str()) else {
         return Err(Cause::UnknownCommodity);
     };

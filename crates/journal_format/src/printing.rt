@@ -18,7 +18,7 @@ ghost use Rattle.journal_format.specs.PrintedParts.{postings_part, comments_and_
 use crate::posting::Posting;
 use crate::txn::Txn;
 use journal_lines::{Status, print_comment, print_header};
-use money_core::{Cause, Claim, ClaimKind, Price, Styles, Text, Unit, print_amount, print_price};
+use money_core::{Cause, Claim, ClaimKind, Price, Styles, Text, Unit, append_amount, append_price};
 use std::alloc::{AllocError, Global};
 
 /// The bytes of a text, if there is one.
@@ -36,11 +36,10 @@ pub(crate) fn bytes_of(text: &Option<Text>) -> Option<&[u8]>
 }
 
 /// Appends a header line.
-fn push_header(txn: &Txn, out: &mut Vec<u8>) -> Result<(), Cause>
+fn push_header(txn: &Txn, out: &mut Vec<u8>) -> Result<(), AllocError>
     requires { IsDayNumber txn.now.day }
     ensures ok { OnOk result (out.new.items ≡ out.old.items ++ header_part txn.now) }
     ensures err { OnErr result (take (length out.old.items) out.new.items ≡ out.old.items) }
-    ensures memory { IsOkUnless result Cause.OutOfMemory }
 {
     let description = txn.description.as_str().as_bytes();
     print_header(txn.day, txn.status, bytes_of(&txn.code), description, out)?;
@@ -49,10 +48,9 @@ fn push_header(txn: &Txn, out: &mut Vec<u8>) -> Result<(), Cause>
 }
 
 /// Appends a comment line.
-fn push_comment(text: &[u8], out: &mut Vec<u8>) -> Result<(), Cause>
+fn push_comment(text: &[u8], out: &mut Vec<u8>) -> Result<(), AllocError>
     ensures ok { OnOk result (out.new.items ≡ out.old.items ++ comment_part text.now) }
     ensures err { OnErr result (take (length out.old.items) out.new.items ≡ out.old.items) }
-    ensures memory { IsOkUnless result Cause.OutOfMemory }
 {
     print_comment(text, out)?;
     out.push(b'\n')?;
@@ -60,10 +58,9 @@ fn push_comment(text: &[u8], out: &mut Vec<u8>) -> Result<(), Cause>
 }
 
 /// Appends comment lines.
-fn push_comments(comments: &[Text], out: &mut Vec<u8>) -> Result<(), Cause>
+fn push_comments(comments: &[Text], out: &mut Vec<u8>) -> Result<(), AllocError>
     ensures ok { OnOk result (out.new.items ≡ out.old.items ++ comments_part comments.now) }
     ensures err { OnErr result (take (length out.old.items) out.new.items ≡ out.old.items) }
-    ensures memory { IsOkUnless result Cause.OutOfMemory }
 {
     'comments: for comment in comments {
         push_comment(comment.as_str().as_bytes(), out)?;
@@ -118,16 +115,15 @@ fn push_price(
     price: &Option<Price>,
     styles: &Styles,
     out: &mut Vec<u8>,
-) -> Result<(), Cause>
+) -> Result<(), AllocError>
     requires { is_price_or_none styles.now price.now ≡ true }
     ensures ok { OnOk result (out.new.items ≡ out.old.items ++ price_text styles.now price.now) }
     ensures err { OnErr result (take (length out.old.items) out.new.items ≡ out.old.items) }
-    ensures memory { IsOkUnless result Cause.OutOfMemory }
 {
     match price {
         Some(price) => {
             out.push(b' ')?;
-            print_price(alloc, price, styles, out)
+            append_price(alloc, price, styles, out)
         }
         None => Ok(()),
     }
@@ -139,18 +135,17 @@ fn push_claim(
     claim: Option<Claim>,
     styles: &Styles,
     out: &mut Vec<u8>,
-) -> Result<(), Cause>
+) -> Result<(), AllocError>
     requires { is_claim_or_none styles.now claim ≡ true }
     ensures ok { OnOk result (out.new.items ≡ out.old.items ++ claim_text styles.now claim) }
     ensures err { OnErr result (take (length out.old.items) out.new.items ≡ out.old.items) }
-    ensures memory { IsOkUnless result Cause.OutOfMemory }
 {
     match claim {
         Some(claim) => {
             out.push(b' ')?;
             push_sign(claim.kind, out)?;
             out.push(b' ')?;
-            print_amount(alloc, claim.unit, claim.qty, styles, out)
+            append_amount(alloc, claim.unit, claim.qty, styles, out)
         }
         None => Ok(()),
     }
@@ -162,17 +157,16 @@ fn push_value(
     posting: &Posting,
     styles: &Styles,
     out: &mut Vec<u8>,
-) -> Result<(), Cause>
+) -> Result<(), AllocError>
     requires { is_value styles.now posting.now.amount posting.now.price posting.now.claim ≡ true }
     ensures ok { OnOk result (out.new.items
         ≡ out.old.items ++ amount_text styles.now posting.now.amount posting.now.price posting.now.claim) }
     ensures err { OnErr result (take (length out.old.items) out.new.items ≡ out.old.items) }
-    ensures memory { IsOkUnless result Cause.OutOfMemory }
 {
     match posting.amount {
         Some((unit, qty)) => {
             out.extend_from_slice(b"  ")?;
-            print_amount(alloc, unit, qty, styles, out)?;
+            append_amount(alloc, unit, qty, styles, out)?;
             push_price(alloc, &posting.price, styles, out)?;
             push_claim(alloc, posting.claim, styles, out)
         }
@@ -187,11 +181,10 @@ fn push_posting(
     posting: &Posting,
     styles: &Styles,
     out: &mut Vec<u8>,
-) -> Result<(), Cause>
+) -> Result<(), AllocError>
     requires { is_value styles.now posting.now.amount posting.now.price posting.now.claim ≡ true }
     ensures ok { OnOk result (out.new.items ≡ out.old.items ++ posting_part styles.now posting.now) }
     ensures err { OnErr result (take (length out.old.items) out.new.items ≡ out.old.items) }
-    ensures memory { IsOkUnless result Cause.OutOfMemory }
 {
     out.extend_from_slice(b"    ")?;
     push_status(posting.status, out)?;
@@ -208,11 +201,10 @@ fn push_postings(
     postings: &[Posting],
     styles: &Styles,
     out: &mut Vec<u8>,
-) -> Result<(), Cause>
+) -> Result<(), AllocError>
     requires { list_all (is_posting styles.now) postings.now ≡ true }
     ensures ok { OnOk result (out.new.items ≡ out.old.items ++ postings_part styles.now postings.now) }
     ensures err { OnErr result (take (length out.old.items) out.new.items ≡ out.old.items) }
-    ensures memory { IsOkUnless result Cause.OutOfMemory }
 {
     'postings: for posting in postings {
         push_posting(alloc, posting, styles, out)?;
@@ -221,35 +213,32 @@ fn push_postings(
 }
 
 /// Appends what stands below header and mark.
-fn push_rest(alloc: Global, txn: &Txn, styles: &Styles, out: &mut Vec<u8>) -> Result<(), Cause>
+fn push_rest(alloc: Global, txn: &Txn, styles: &Styles, out: &mut Vec<u8>) -> Result<(), AllocError>
     requires { list_all (is_posting styles.now) txn.now.postings ≡ true }
     ensures ok { OnOk result (out.new.items ≡ out.old.items ++ comments_and_postings_part styles.now txn.now) }
     ensures err { OnErr result (take (length out.old.items) out.new.items ≡ out.old.items) }
-    ensures memory { IsOkUnless result Cause.OutOfMemory }
 {
     push_comments(txn.comments.items(), out)?;
     push_postings(alloc, txn.postings.items(), styles, out)
 }
 
 /// Appends a body.
-fn push_body(alloc: Global, txn: &Txn, styles: &Styles, out: &mut Vec<u8>) -> Result<(), Cause>
+fn push_body(alloc: Global, txn: &Txn, styles: &Styles, out: &mut Vec<u8>) -> Result<(), AllocError>
     requires day { IsDayNumber txn.now.day }
     requires postings { list_all (is_posting styles.now) txn.now.postings ≡ true }
     ensures ok { OnOk result (out.new.items ≡ out.old.items ++ body_text styles.now txn.now) }
     ensures err { OnErr result (take (length out.old.items) out.new.items ≡ out.old.items) }
-    ensures memory { IsOkUnless result Cause.OutOfMemory }
 {
     push_header(txn, out)?;
     push_rest(alloc, txn, styles, out)
 }
 
 /// Appends a transaction's text.
-fn push_txn(alloc: Global, txn: &Txn, styles: &Styles, out: &mut Vec<u8>) -> Result<(), Cause>
+fn push_txn(alloc: Global, txn: &Txn, styles: &Styles, out: &mut Vec<u8>) -> Result<(), AllocError>
     requires day { IsDayNumber txn.now.day }
     requires postings { list_all (is_posting styles.now) txn.now.postings ≡ true }
     ensures ok { OnOk result (out.new.items ≡ out.old.items ++ txn_text styles.now txn.now) }
     ensures err { OnErr result (take (length out.old.items) out.new.items ≡ out.old.items) }
-    ensures memory { IsOkUnless result Cause.OutOfMemory }
 {
     push_header(txn, out)?;
     push_mark(&txn.mark, out)?;
@@ -262,11 +251,10 @@ fn push_journal(
     txns: &[Txn],
     styles: &Styles,
     out: &mut Vec<u8>,
-) -> Result<(), Cause>
+) -> Result<(), AllocError>
     requires { AllByRecursion (IsPrintable styles.now) txns.now }
     ensures ok { OnOk result (out.new.items ≡ out.old.items ++ journal_text styles.now txns.now) }
     ensures err { OnErr result (take (length out.old.items) out.new.items ≡ out.old.items) }
-    ensures memory { IsOkUnless result Cause.OutOfMemory }
 {
     'txns: for txn in txns {
         push_txn(alloc, txn, styles, out)?;
@@ -291,8 +279,9 @@ pub fn body(alloc: Global, txn: &Txn, styles: &Styles, out: &mut Vec<u8>) -> Res
     let done = push_body(alloc, txn, styles, out);
     if done.is_err() {
         out.truncate(before);
+        return Err(Cause::OutOfMemory);
     }
-    done
+    Ok(())
 }
 
 /// Appends the canonical text of a transaction.
@@ -311,8 +300,9 @@ pub fn print_txn(alloc: Global, txn: &Txn, styles: &Styles, out: &mut Vec<u8>) -
     let done = push_txn(alloc, txn, styles, out);
     if done.is_err() {
         out.truncate(before);
+        return Err(Cause::OutOfMemory);
     }
-    done
+    Ok(())
 }
 
 /// Appends the canonical texts of the transactions in order, an empty line after each.
@@ -337,6 +327,7 @@ pub fn print_journal(
     let done = push_journal(alloc, txns, styles, out);
     if done.is_err() {
         out.truncate(before);
+        return Err(Cause::OutOfMemory);
     }
-    done
+    Ok(())
 }

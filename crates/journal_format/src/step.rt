@@ -43,10 +43,10 @@ fn goes_on(
             None => Ok((Context::Commodities(unit), 0)),
             Some(cause) => Err(cause),
         },
-        Context::Entry(number, txn) => match entry_line(alloc, txn, line, styles) {
-            Ok((txn, grown)) => Ok((Context::Entry(number, txn), size + grown)),
-            Err(cause) => Err(cause),
-        },
+        Context::Entry(number, txn) => {
+            let (txn, grown) = entry_line(alloc, txn, line, styles)?;
+            Ok((Context::Entry(number, txn), size + grown))
+        }
         Context::Block => Ok((Context::Block, 0)),
     }
 }
@@ -71,18 +71,16 @@ fn opens(
         LineKind::Skipped => Ok((Context::Skipping, 0)),
         LineKind::Indented => Err(Cause::StrayLine),
         LineKind::Unknown => Err(Cause::Directive),
-        LineKind::Commodity => match commodity_of(alloc, styles, line) {
-            Ok(unit) => Ok((Context::Commodities(unit), 0)),
-            Err(cause) => Err(cause),
-        },
+        LineKind::Commodity => {
+            let unit = commodity_of(alloc, styles, line)?;
+            Ok((Context::Commodities(unit), 0))
+        }
         LineKind::Header => {
             if count >= MAX_TXNS {
                 return Err(Cause::TooLong);
             }
-            match begun(alloc, line) {
-                Ok((txn, size)) => Ok((Context::Entry(number, txn), size)),
-                Err(cause) => Err(cause),
-            }
+            let (txn, size) = begun(alloc, line)?;
+            Ok((Context::Entry(number, txn), size))
         }
     }
 }

@@ -120,10 +120,8 @@ pub fn print_date(_alloc: Global, day: Day, out: &mut Vec<u8>) -> Result<(), Cau
     ensures memory { IsOkUnless result Cause.OutOfMemory }
     ensures err { OnErr result (out.new.items ≡ out.old.items) }
 {
-    match out.extend_from_slice(&date_text(day)) {
-        Ok(()) => Ok(()),
-        Err(error) => Err(Cause::from(error)),
-    }
+    out.extend_from_slice(&date_text(day))?;
+    Ok(())
 }
 
 /// The ten bytes of the date of the day.

@@ -1,7 +1,6 @@
 //! Header lines and comment lines printed, how long they are, and which parts read back.
 
 ghost use Rattle.std.specs.Prelude.{◌≡◌, ◌≤◌, ◌+◌, ◌++◌, ◌↔◌, ℕ, true, IsTrue, take, length, slice_index, OnOk, OnErr};
-ghost use Rattle.std.specs.Result.{IsOkUnless};
 ghost use Rattle.std.specs.List.{list_all};
 ghost use Rattle.std.specs.Str.{is_utf8};
 ghost use Rattle.money_core.specs.declared.day.Day.{Day};
@@ -18,7 +17,7 @@ ghost use Rattle.journal_lines.specs.Printed.{HeaderReadsBack, HeaderIsUtf8};
 use crate::blank::is_blank;
 use crate::date::date_text;
 use crate::header::{MAX_CODE, MAX_COMMENT, MAX_DESCRIPTION, Status};
-use money_core::{Cause, Day, find, first_byte};
+use money_core::{Day, find, first_byte};
 use std::alloc::AllocError;
 
 /// Whether no ASCII control character but the tab stands in the line.
@@ -216,18 +215,17 @@ fn push_header(
 /// Appends the header line of these parts, without its end: `YYYY-MM-DD`, then after a space each that is there, the
 /// status, the code in parentheses, the description.
 ///
-/// Parts that pass `is_code` and `is_description` read back. Answers 40 for want of memory, and `out` is as it was.
+/// Parts that pass `is_code` and `is_description` read back. Where memory is refused, `out` is as it was.
 pub fn print_header(
     day: Day,
     status: Option<Status>,
     code: Option<&[u8]>,
     description: &[u8],
     out: &mut Vec<u8>,
-) -> Result<(), Cause>
+) -> Result<(), AllocError>
     requires { IsDayNumber day }
     ensures ok { OnOk result (out.new.items
         ≡ out.old.items ++ header_line day status (text_of code.entry) description.now) }
-    ensures memory { IsOkUnless result Cause.OutOfMemory }
     ensures err { OnErr result (out.new.items ≡ out.old.items) }
 
     // Such a line reads back, and parts in UTF-8 make a line in UTF-8.
@@ -235,13 +233,11 @@ pub fn print_header(
     ensures utf8 { HeaderIsUtf8 day status (text_of code.entry) description.now }
 {
     let before = out.len();
-    match push_header(out, day, status, code, description) {
-        Ok(()) => Ok(()),
-        Err(error) => {
-            out.truncate(before);
-            Err(Cause::from(error))
-        }
+    let done = push_header(out, day, status, code, description);
+    if done.is_err() {
+        out.truncate(before);
     }
+    done
 }
 
 /// Appends the comment line; where memory is refused, the front is as it was.
@@ -256,10 +252,9 @@ fn push_comment(out: &mut Vec<u8>, text: &[u8]) -> Result<(), AllocError>
 
 /// Appends the line of a comment below a header, without its end: four spaces, `;`, and after a space the text.
 ///
-/// A text that passes `is_comment` reads back. Answers 40 for want of memory, and `out` is as it was.
-pub fn print_comment(text: &[u8], out: &mut Vec<u8>) -> Result<(), Cause>
+/// A text that passes `is_comment` reads back. Where memory is refused, `out` is as it was.
+pub fn print_comment(text: &[u8], out: &mut Vec<u8>) -> Result<(), AllocError>
     ensures ok { OnOk result (out.new.items ≡ out.old.items ++ comment_line text.now) }
-    ensures memory { IsOkUnless result Cause.OutOfMemory }
     ensures err { OnErr result (out.new.items ≡ out.old.items) }
 
     // Such a line reads back, and a text in UTF-8 makes a line in UTF-8.
@@ -267,11 +262,9 @@ pub fn print_comment(text: &[u8], out: &mut Vec<u8>) -> Result<(), Cause>
     ensures utf8 { is_utf8 text.now ≡ true → is_utf8 (comment_line text.now) ≡ true }
 {
     let before = out.len();
-    match push_comment(out, text) {
-        Ok(()) => Ok(()),
-        Err(error) => {
-            out.truncate(before);
-            Err(Cause::from(error))
-        }
+    let done = push_comment(out, text);
+    if done.is_err() {
+        out.truncate(before);
     }
+    done
 }

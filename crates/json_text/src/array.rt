@@ -17,10 +17,8 @@ fn grow_next(first: bool, text: &[u8], out: &mut Vec<u8>) -> Result<(), AllocErr
     if first {
         return grow_string(text, out);
     }
-    match grow_bytes(b",", out) {
-        Ok(()) => grow_string(text, out),
-        Err(error) => Err(error),
-    }
+    grow_bytes(b",", out)?;
+    grow_string(text, out)
 }
 
 /// Appends the strings of texts, with a comma between one and the next.
@@ -29,10 +27,8 @@ fn grow_texts(texts: &[&[u8]], out: &mut Vec<u8>) -> Result<(), AllocError>
 {
     let mut first = true;
     'texts: for text in texts {
-        match grow_next(first, text, out) {
-            Ok(()) => first = false,
-            Err(error) => return Err(error),
-        }
+        grow_next(first, text, out)?;
+        first = false;
     }
     Ok(())
 }
@@ -57,10 +53,8 @@ fn grow_all_lines(text: &[u8], out: &mut Vec<u8>) -> Result<(), AllocError>
     let mut rest = text;
     'lines: while !rest.is_empty() {
         let end = first_place(rest, b'\n');
-        match grow_next(first, &rest[..end], out) {
-            Ok(()) => first = false,
-            Err(error) => return Err(error),
-        }
+        grow_next(first, &rest[..end], out)?;
+        first = false;
         rest = behind_line(rest, end);
     }
     Ok(())
@@ -70,28 +64,18 @@ fn grow_all_lines(text: &[u8], out: &mut Vec<u8>) -> Result<(), AllocError>
 pub(crate) fn grow_lines(text: &[u8], out: &mut Vec<u8>) -> Result<(), AllocError>
     ensures { AppendsText (strings_text (lines_of text.now)) out.old out.new result }
 {
-    match grow_bytes(b"[", out) {
-        Ok(()) => {}
-        Err(error) => return Err(error),
-    }
-    match grow_all_lines(text, out) {
-        Ok(()) => grow_bytes(b"]", out),
-        Err(error) => Err(error),
-    }
+    grow_bytes(b"[", out)?;
+    grow_all_lines(text, out)?;
+    grow_bytes(b"]", out)
 }
 
 /// Appends the array of texts.
 fn grow_strings(texts: &[&[u8]], out: &mut Vec<u8>) -> Result<(), AllocError>
     ensures { AppendsText (strings_text (map (λ text. text.now) texts.now)) out.old out.new result }
 {
-    match grow_bytes(b"[", out) {
-        Ok(()) => {}
-        Err(error) => return Err(error),
-    }
-    match grow_texts(texts, out) {
-        Ok(()) => grow_bytes(b"]", out),
-        Err(error) => Err(error),
-    }
+    grow_bytes(b"[", out)?;
+    grow_texts(texts, out)?;
+    grow_bytes(b"]", out)
 }
 
 /// Appends the array of texts, each a string.
@@ -146,14 +130,9 @@ fn behind_first(text: &[u8]) -> &[u8]
 fn grow_array(elements: &[u8], out: &mut Vec<u8>) -> Result<(), AllocError>
     ensures { AppendsText (codes "[" ++ drop 1 elements.now ++ codes "]") out.old out.new result }
 {
-    match grow_bytes(b"[", out) {
-        Ok(()) => {}
-        Err(error) => return Err(error),
-    }
-    match grow_bytes(behind_first(elements), out) {
-        Ok(()) => grow_bytes(b"]", out),
-        Err(error) => Err(error),
-    }
+    grow_bytes(b"[", out)?;
+    grow_bytes(behind_first(elements), out)?;
+    grow_bytes(b"]", out)
 }
 
 /// Appends the array of elements that are written already, each after a comma.

@@ -41,14 +41,9 @@ fn grow_value(value: &MemberValue, out: &mut Vec<u8>) -> Result<(), AllocError>
 fn grow_member(member: &Member, out: &mut Vec<u8>) -> Result<(), AllocError>
     ensures { AppendsText (member_text (member_of member.now)) out.old out.new result }
 {
-    match grow_string(member.key, out) {
-        Ok(()) => {}
-        Err(error) => return Err(error),
-    }
-    match grow_bytes(b":", out) {
-        Ok(()) => grow_value(&member.value, out),
-        Err(error) => Err(error),
-    }
+    grow_string(member.key, out)?;
+    grow_bytes(b":", out)?;
+    grow_value(&member.value, out)
 }
 
 /// Appends a member, after a comma where it is not the first.
@@ -59,10 +54,8 @@ fn grow_next(first: bool, member: &Member, out: &mut Vec<u8>) -> Result<(), Allo
     if first {
         return grow_member(member, out);
     }
-    match grow_bytes(b",", out) {
-        Ok(()) => grow_member(member, out),
-        Err(error) => Err(error),
-    }
+    grow_bytes(b",", out)?;
+    grow_member(member, out)
 }
 
 /// Appends members, with a comma between one and the next.
@@ -71,10 +64,8 @@ fn grow_members(members: &[Member], out: &mut Vec<u8>) -> Result<(), AllocError>
 {
     let mut first = true;
     'members: for member in members {
-        match grow_next(first, member, out) {
-            Ok(()) => first = false,
-            Err(error) => return Err(error),
-        }
+        grow_next(first, member, out)?;
+        first = false;
     }
     Ok(())
 }
@@ -83,14 +74,9 @@ fn grow_members(members: &[Member], out: &mut Vec<u8>) -> Result<(), AllocError>
 fn grow_object(members: &[Member], out: &mut Vec<u8>) -> Result<(), AllocError>
     ensures { AppendsText (object_text (members_of members.now)) out.old out.new result }
 {
-    match grow_bytes(b"{", out) {
-        Ok(()) => {}
-        Err(error) => return Err(error),
-    }
-    match grow_members(members, out) {
-        Ok(()) => grow_bytes(b"}", out),
-        Err(error) => Err(error),
-    }
+    grow_bytes(b"{", out)?;
+    grow_members(members, out)?;
+    grow_bytes(b"}", out)
 }
 
 /// Appends the object of the members, in their order.

@@ -55,10 +55,7 @@ fn grow_all_escaped(text: &[u8], out: &mut Vec<u8>) -> Result<(), AllocError>
     ensures { AppendsText (flat_map escaped text.now) out.old out.new result }
 {
     'bytes: for byte in text {
-        match grow_escaped(*byte, out) {
-            Ok(()) => {}
-            Err(error) => return Err(error),
-        }
+        grow_escaped(*byte, out)?;
     }
     Ok(())
 }
@@ -67,14 +64,9 @@ fn grow_all_escaped(text: &[u8], out: &mut Vec<u8>) -> Result<(), AllocError>
 pub(crate) fn grow_string(text: &[u8], out: &mut Vec<u8>) -> Result<(), AllocError>
     ensures { AppendsText (quoted text.now) out.old out.new result }
 {
-    match grow_bytes(b"\"", out) {
-        Ok(()) => {}
-        Err(error) => return Err(error),
-    }
-    match grow_all_escaped(text, out) {
-        Ok(()) => grow_bytes(b"\"", out),
-        Err(error) => Err(error),
-    }
+    grow_bytes(b"\"", out)?;
+    grow_all_escaped(text, out)?;
+    grow_bytes(b"\"", out)
 }
 
 /// Appends the string of a text: in quotes, with `\"`, `\\`, and `\u00XX` for bytes below the blank; at most six bytes

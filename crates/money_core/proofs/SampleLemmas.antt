@@ -1,7 +1,7 @@
 -- The style that is found is the one that the sample spells, and a sample spells one style.
 use Rattle.std.proofs.Common.{◌≡◌, ◌↔◌, ◌⊎◌, ◌<◌, ◌≤◌, ◌+◌, ◌-◌, ◌==◌, ℕ, List, [], ◌∷◌, Bool, true, false, cond}
 use Rattle.std.proofs.Common.{length, drop, get_or, arith, refl, ap, ◌∙◌, sym, subst, Option, Some, None, Result, Ok}
-use Rattle.std.proofs.Common.{Err, IfOk, inl, inr, nat_lt, get_or-drop, length-drop}
+use Rattle.std.proofs.Common.{Err, inl, inr, nat_lt, get_or-drop, length-drop}
 use Rattle.std.proofs.lemmas.Bool.{cases_Bool, and_parts, and_from, le-ltb, le-leb, eqb-true, false_from_ne_true}
 use Rattle.std.proofs.lemmas.Bool.{ltb-false, cases_order}
 use Rattle.std.proofs.lemmas.List.Sums.{passes_at_first, AllPass-from_list_all}
@@ -10,7 +10,7 @@ use Rattle.std.specs.List.{list_any, position_or_len}
 use Rattle.std.specs.Char.{is_ascii_digit}
 use Rattle.std.specs.Str.{is_utf8}
 use Rattle.std.specs.Option.{ok_or}
-use Rattle.std.specs.Result.{IsOkUnless}
+use Rattle.std.specs.Prelude.{◌≢◌, IsErrAnd}
 use Rattle.money_core.specs.declared.mark.Mark.{Mark}
 use Rattle.money_core.specs.declared.mark.Mark.TheVariants.{Point, Comma}
 use Rattle.money_core.specs.declared.amount.Sign.{Sign}
@@ -169,7 +169,7 @@ one_style text s t h k = same_Some s t (sym (spelled_style text s h) ∙ spelled
 pub sample_symbol : (text : List ℕ) (style : Style) → IsSample text style → is_symbol style.symbol ≡ true
 sample_symbol text style h = ap is_symbol h.symbol ∙ amount_symbol style.mark text h.parts h.amount
 
-only_memory : (r : Result Style Cause) → IsOkUnless r OutOfMemory → r ≡ Err Amount → ⊥
+pub only_memory : (r : Result Style Cause) → IsErrAnd r (λ e. e ≡ OutOfMemory) → r ≡ Err Amount → ⊥
 only_memory (Ok s) m e = cc
 only_memory (Err cause) m e = cc
 
@@ -182,28 +182,18 @@ module _ (text : List ℕ) (style : Style) (found : style_of text ≡ Some style
   pub found_utf8 : is_utf8 style.symbol ≡ true
   found_utf8 = (symbol_facts style.symbol (sample_symbol text style (style_spelled text style found))).utf8
 
-  pub found_ok : (r : Result Style Cause) → IfOk r (λ s. s ≡ style) → IfOk r (λ s. IsSample text s)
-  found_ok (Ok s) e = subst (IsSample text) (sym e) (style_spelled text style found)
-  found_ok (Err cause) e = tt
+  pub found_ok : (s : Style) → s ≡ style → IsSample text s
+  found_ok s e = subst (IsSample text) (sym e) (style_spelled text style found)
 
-  pub found_declarable : (r : Result Style Cause) → IfOk r (λ s. s ≡ style) → IfOk r (λ s. is_style s ≡ true)
-  found_declarable (Ok s) e = ap is_style e ∙ sample_style text style (style_spelled text style found)
-  found_declarable (Err cause) e = tt
+  pub found_declarable : (s : Style) → s ≡ style → is_style s ≡ true
+  found_declarable s e = ap is_style e ∙ sample_style text style (style_spelled text style found)
 
-  pub found_only : (r : Result Style Cause) → IfOk r (λ s. s ≡ style) → IsOkUnless r OutOfMemory → (other : Style)
-      → IsSample text other → (r ≡ Ok other) ⊎ (r ≡ Err OutOfMemory)
-  found_only (Ok s) e m other h =
-      inl (ap (λ (x : Style). Ok x) (e ∙ same_Some style other (sym found ∙ spelled_style text other h)))
-  found_only (Err cause) e m other h = inr (ap (λ (x : Cause). Err x) m)
+  pub found_only : (s : Style) → s ≡ style → (other : Style) → IsSample text other → s ≡ other
+  found_only s e other h = e ∙ same_Some style other (sym found ∙ spelled_style text other h)
 
-  pub found_answer : (r : Result Style Cause) → IfOk r (λ s. s ≡ style) → IsOkUnless r OutOfMemory
-      → (r ≡ ok_or (style_of text) Amount) ⊎ (r ≡ Err OutOfMemory)
-  found_answer (Ok s) e m = inl (rw (found, e) refl)
-  found_answer (Err cause) e m = inr (ap (λ (x : Cause). Err x) m)
-
-  pub found_none : (r : Result Style Cause) → IsOkUnless r OutOfMemory
+  pub found_none : (r : Result Style Cause) → r ≢ Err Amount
       → (r ≡ Err Amount) ↔ ((other : Style) → ¬ IsSample text other)
-  found_none r m = (λ e. absurd (only_memory r m e), λ none. absurd (none style (style_spelled text style found)))
+  found_none r differs = (λ e. absurd (differs e), λ none. absurd (none style (style_spelled text style found)))
 
 -- what is answered where none was
 module _ (text : List ℕ) (lacks : style_of text ≡ None) where

@@ -110,6 +110,30 @@ pub(crate) fn push_amount(
     Ok(())
 }
 
+/// Appends what `print_amount` does.
+pub fn append_amount(
+    alloc: Global,
+    unit: Unit,
+    qty: i64,
+    styles: &Styles,
+    out: &mut Vec<u8>,
+) -> Result<(), AllocError>
+    requires { IsDeclared styles.now unit qty }
+    ensures ok { OnOk result (out.new.items ≡ out.old.items ++ printed_in styles.now unit qty) }
+    ensures err { OnErr result (out.new.items ≡ out.old.items) }
+{
+    styles.are_styles();
+    let style = styles.style(unit).unwrap();
+    let before = out.len();
+    match push_amount(alloc, out, style, style.decimals, qty) {
+        Ok(()) => Ok(()),
+        Err(refused) => {
+            out.truncate(before);
+            Err(refused)
+        }
+    }
+}
+
 /// Appends the canonical text of the quantity, in smallest units of the commodity, at most 10^16 with either sign.
 ///
 /// Where memory is refused (40), the vector is as it was.
@@ -128,15 +152,7 @@ pub fn print_amount(
     ensures memory { IsOkUnless result Cause.OutOfMemory }
 {
     styles.are_styles();
-    let style = styles.style(unit).unwrap();
-    let before = out.len();
-    match push_amount(alloc, out, style, style.decimals, qty) {
-        Ok(()) => Ok(()),
-        Err(refused) => {
-            out.truncate(before);
-            Err(Cause::from(refused))
-        }
-    }
+    Ok(append_amount(alloc, unit, qty, styles, out)?)
 }
 
 /// Each amount of declared commodities is printed as a text that reads as it.

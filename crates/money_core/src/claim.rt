@@ -1,9 +1,9 @@
 //! What a balance assertion says (hledger manual, "Balance assertions").
 
-use crate::cause::Cause;
 use crate::items::Copied;
 use crate::same::Same;
 use crate::unit::Unit;
+use std::alloc::AllocError;
 
 /// The four kinds of assertion.
 #[derive(Clone, Copy, Debug, PartialEq, Eq)]
@@ -28,7 +28,7 @@ pub struct Claim {
 }
 
 impl Copied for Claim {
-    fn copy(&self) -> Result<Self, Cause> {
+    fn duplicate(&self) -> Result<Self, AllocError> {
         Ok(*self)
     }
 }

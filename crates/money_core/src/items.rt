@@ -4,7 +4,7 @@ ghost use Rattle.std.specs.Prelude.{◌≡◌, List, [], ◌∷◌, ◌++◌, On
 ghost use Rattle.std.specs.Result.{IsOkUnless};
 
 use crate::cause::Cause;
-use std::alloc::Global;
+use std::alloc::{AllocError, Global};
 use std::marker::Model;
 
 /// A list of items, in order.
@@ -21,10 +21,17 @@ impl<T> Model for Items<T> {
 
 /// A value of which an equal one can be made.
 pub trait Copied: Drop {
+    /// An equal value.
+    fn duplicate(&self) -> Result<Self, AllocError>
+        ensures { IfOk result (λ x. x ≡ self.now) };
+
     /// An equal value. Where memory for it is refused, it answers 40.
-    fn copy(&self) -> Result<Self, Cause>
+    final fn copy(&self) -> Result<Self, Cause>
         ensures equal { IfOk result (λ x. x ≡ self.now) }
-        ensures memory { IsOkUnless result Cause.OutOfMemory };
+        ensures memory { IsOkUnless result Cause.OutOfMemory }
+    {
+        Ok(self.duplicate()?)
+    }
 }
 
 impl<T> Items<T> {
@@ -61,32 +68,41 @@ impl<T> Items<T> {
 }
 
 impl<T: Drop> Items<T> {
+    /// Puts the item last. Where memory is refused, the list stays as it is, and the item is lost.
+    pub fn add(&mut self, item: T) -> Result<(), AllocError>
+        ensures ok { OnOk result (self.new ≡ self.old ++ item ∷ []) }
+        ensures err { OnErr result (self.new ≡ self.old) }
+    {
+        self.list.push(item)?;
+        Ok(())
+    }
+
     /// Puts the item last. Where memory is refused (40), the list stays as it is, and the item is lost.
     pub fn push(&mut self, item: T) -> Result<(), Cause>
         ensures ok { OnOk result (self.new ≡ self.old ++ item ∷ []) }
         ensures err { OnErr result (self.new ≡ self.old) }
         ensures memory { IsOkUnless result Cause.OutOfMemory }
     {
-        self.list.push(item)?;
-        Ok(())
+        Ok(self.add(item)?)
     }
 }
 
-/// Copies of the items, in order.
-fn copies_of<T: Copied>(alloc: Global, items: &[T]) -> Result<Items<T>, Cause>
-    ensures equal { IfOk result (λ list. list ≡ items.now) }
-    ensures memory { IsOkUnless result Cause.OutOfMemory }
-{
-    let mut list = Vec::with_capacity(alloc, items.len())?;
-    for item in items {
-        let copy = item.copy()?;
-        list.push(copy)?;
+impl<T: Copied> Copied for Option<T> {
+    fn duplicate(&self) -> Result<Self, AllocError> {
+        match self {
+            Some(value) => Ok(Some(value.duplicate()?)),
+            None => Ok(None),
+        }
     }
-    Ok(Items::from_vec(list))
 }
 
 impl<T: Copied> Copied for Items<T> {
-    fn copy(&self) -> Result<Self, Cause> {
-        copies_of(*self.list.allocator(), self.list.as_slice())
+    fn duplicate(&self) -> Result<Self, AllocError> {
+        let mut list = Vec::with_capacity(*self.list.allocator(), self.list.len())?;
+        for item in &self.list {
+            let copy = item.duplicate()?;
+            list.push(copy)?;
+        }
+        Ok(Items { list })
     }
 }

@@ -26,7 +26,7 @@ mod symbol;
 mod text;
 mod unit;
 
-pub use amount_text::{amounts_bound, amounts_print, is_declared, print_amount};
+pub use amount_text::{amounts_bound, amounts_print, append_amount, is_declared, print_amount};
 pub use bytes::{find, first_byte, first_place};
 pub use cause::{Cause, Fault};
 pub use claim::{Claim, ClaimKind};
@@ -37,7 +37,7 @@ pub use items::{Copied, Items};
 pub use length::{MAX_AMOUNT_LEN, MAX_PRICE_LEN, amount_len, price_len};
 pub use mark::Mark;
 pub use price::{Price, is_price};
-pub use price_text::{prices_bound, prices_print, print_price, read_price};
+pub use price_text::{append_price, prices_bound, prices_print, print_price, read_price};
 pub use reading::read_amount;
 pub use same::Same;
 pub use sample::read_style;

@@ -4,12 +4,12 @@ ghost use Rattle.std.specs.Prelude.{◌≡◌};
 ghost use Rattle.std.specs.Option.{option_copied};
 ghost use Rattle.money_core.specs.Price.{cost_unit, is_cost, is_price};
 
-use crate::cause::Cause;
 use crate::items::Copied;
 use crate::number::LIMIT;
 use crate::style::Style;
 use crate::styles::Styles;
 use crate::unit::Unit;
+use std::alloc::AllocError;
 
 /// The greatest number of decimals of a unit cost.
 pub const MAX_COST_DECIMALS: u8 = 12;
@@ -49,7 +49,7 @@ impl Price {
 }
 
 impl Copied for Price {
-    fn copy(&self) -> Result<Self, Cause> {
+    fn duplicate(&self) -> Result<Self, AllocError> {
         Ok(*self)
     }
 }

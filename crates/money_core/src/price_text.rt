@@ -188,6 +188,29 @@ fn push_price(
     Ok(())
 }
 
+/// Appends what `print_price` does.
+pub fn append_price(
+    alloc: Global,
+    price: &Price,
+    styles: &Styles,
+    out: &mut Vec<u8>,
+) -> Result<(), AllocError>
+    requires { is_price styles.now price.now ≡ true }
+    ensures ok { OnOk result (out.new.items ≡ out.old.items ++ printed_price styles.now price.now) }
+    ensures err { OnErr result (out.new.items ≡ out.old.items) }
+{
+    styles.are_styles();
+    let style = styles.style(price.unit()).unwrap();
+    let before = out.len();
+    match push_price(alloc, out, style, price) {
+        Ok(()) => Ok(()),
+        Err(refused) => {
+            out.truncate(before);
+            Err(refused)
+        }
+    }
+}
+
 /// Appends the canonical text of the price, from its `@` on.
 ///
 /// Where memory is refused (40), the vector is as it was.
@@ -205,15 +228,7 @@ pub fn print_price(
     ensures memory { IsOkUnless result Cause.OutOfMemory }
 {
     styles.are_styles();
-    let style = styles.style(price.unit()).unwrap();
-    let before = out.len();
-    match push_price(alloc, out, style, price) {
-        Ok(()) => Ok(()),
-        Err(refused) => {
-            out.truncate(before);
-            Err(Cause::from(refused))
-        }
-    }
+    Ok(append_price(alloc, price, styles, out)?)
 }
 
 /// Each price of declared commodities is printed as a text that reads as it.

@@ -74,10 +74,8 @@ fn amount_of_parts(parts: Option<Parts<'_>>, styles: &Styles) -> Result<(Unit, i
     let Some(style) = styles.style(unit) else {
         return Err(Cause::Amount);
     };
-    match quantity_in(style, parts.sign, parts.number) {
-        Ok(quantity) => Ok((unit, quantity)),
-        Err(cause) => Err(cause),
-    }
+    let quantity = quantity_in(style, parts.sign, parts.number)?;
+    Ok((unit, quantity))
 }
 
 /// The commodity and the quantity, in smallest units, of an amount (hledger manual, "Amounts").

@@ -3,7 +3,6 @@
 ghost use Rattle.std.specs.Prelude.{◌≡◌, ◌↔◌, ◌==◌, ◌⊎◌, List, ℕ, true, IfSome, IfOk, IfErr};
 ghost use Rattle.std.specs.List.{list_any};
 ghost use Rattle.std.specs.Option.{option_map, ok_or};
-ghost use Rattle.std.specs.Result.{IsOkUnless};
 ghost use Rattle.std.specs.Str.{is_utf8};
 ghost use Rattle.money_core.specs.declared.style.Style.{Style};
 ghost use Rattle.money_core.specs.Views.{parts_view, spelled_view};
@@ -17,7 +16,7 @@ use crate::mark::Mark;
 use crate::number::{LIMIT, fraction_part, is_number, quantity, whole_part};
 use crate::style::{MAX_DECIMALS, Style};
 use crate::text::{Text, text_of};
-use std::alloc::Global;
+use std::alloc::{AllocError, Global};
 
 /// The style that a sample spells, with its symbol where the sample has it.
 #[derive(Clone, Copy)]
@@ -87,14 +86,13 @@ fn cut_style(parts: Option<Parts<'_>>) -> Option<Spelled<'_>>
 }
 
 /// The style, with its symbol copied.
-fn copied(alloc: Global, spelled: Spelled<'_>) -> Result<Style, Cause>
+fn copied(alloc: Global, spelled: Spelled<'_>) -> Result<Style, AllocError>
     requires { is_utf8 spelled.symbol.now ≡ true }
-    ensures equal { IfOk result (λ style. style ≡ spelled_view spelled.entry) }
-    ensures memory { IsOkUnless result Cause.OutOfMemory }
+    ensures { IfOk result (λ style. style ≡ spelled_view spelled.entry) }
 {
-    let symbol = Text::of(alloc, text_of(spelled.symbol))?;
+    let symbol = String::from_str(alloc, text_of(spelled.symbol))?;
     Ok(Style {
-        symbol,
+        symbol: Text::from_string(symbol),
         left: spelled.left,
         spaced: spelled.spaced,
         mark: spelled.mark,
@@ -119,7 +117,7 @@ pub fn read_style(alloc: Global, text: &str) -> Result<Style, Cause>
     ensures answer { (result ≡ ok_or (style_of text.now) Cause.Amount) ⊎ (result ≡ Err Cause.OutOfMemory) }
 {
     match cut_style(amount_parts(text.as_bytes())) {
-        Some(spelled) => copied(alloc, spelled),
+        Some(spelled) => Ok(copied(alloc, spelled)?),
         None => Err(Cause::Amount),
     }
 }

@@ -3,11 +3,11 @@
 ghost use Rattle.std.specs.Prelude.{◌≡◌, ◌↔◌, ℕ, List, IsTrue};
 ghost use Rattle.money_core.specs.Style.{is_style, IsSample};
 
-use crate::cause::Cause;
 use crate::items::Copied;
 use crate::mark::Mark;
 use crate::symbol;
 use crate::text::Text;
+use std::alloc::AllocError;
 
 /// The greatest number of decimals of a commodity.
 pub const MAX_DECIMALS: u8 = 6;
@@ -30,8 +30,8 @@ pub struct Style {
 }
 
 impl Copied for Style {
-    fn copy(&self) -> Result<Self, Cause> {
-        let symbol = self.symbol.copy()?;
+    fn duplicate(&self) -> Result<Self, AllocError> {
+        let symbol = self.symbol.duplicate()?;
         Ok(Style {
             symbol,
             left: self.left,

@@ -7,7 +7,7 @@ ghost use Rattle.std.specs.String.{string_bytes};
 
 use crate::cause::Cause;
 use crate::items::Copied;
-use std::alloc::Global;
+use std::alloc::{AllocError, Global};
 use std::marker::Model;
 
 /// A text in a record.
@@ -66,7 +66,7 @@ pub fn text_of(bytes: &[u8]) -> &str
 }
 
 impl Copied for Text {
-    fn copy(&self) -> Result<Self, Cause> {
+    fn duplicate(&self) -> Result<Self, AllocError> {
         let text = self.text.clone()?;
         Ok(Text { text })
     }

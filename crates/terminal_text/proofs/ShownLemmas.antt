@@ -17,7 +17,6 @@ use Rattle.std.proofs.lemmas.List.Folds.{list_all-append}
 use Rattle.std.proofs.lemmas.Str.{IsUtf8-nil, IsUtf8-append, IsUtf8-encode, chars-nil, chars-encodes, chars-append}
 use Rattle.std.proofs.lemmas.Str.{encode_ascii, length-encode, len_utf8_bounds, encodes-chars, scalars-chars}
 use Rattle.std.proofs.lemmas.Str.{IsUtf8-from_is_utf8, is_utf8-from_IsUtf8}
-use Rattle.money_core.proofs.TestLemmas.{if_either}
 use Rattle.terminal_text.specs.Shown.{is_shown, IsShown, shown_char, shown_byte, most_shown, shown_from, shown_bytes}
 use Rattle.terminal_text.specs.Shown.{shown_text}
 
@@ -30,6 +29,10 @@ both_shown xs ys h k = record {
   all = ap (list_all is_shown) (chars-append xs ys h.utf8) ∙ list_all-append is_shown (chars xs) (chars ys)
       ∙ and_from (list_all is_shown (chars xs)) (list_all is_shown (chars ys)) h.all k.all;
 }
+
+either_shown : (t : Bool) (xs ys : List ℕ) → IsShown xs → IsShown ys → IsShown (if t then xs else ys)
+either_shown true xs ys h k = h
+either_shown false xs ys h k = k
 
 -- a character as itself
 one_char : (c : ℕ) → IsScalar c → chars (encode_utf8 c) ≡ c ∷ []
@@ -99,13 +102,18 @@ glyph_at d false e h = plain_between (87 + d) (omega arith) (omega arith)
 glyph_plain : (d : ℕ) → d < 16 → is_plain (digit_char d) ≡ true
 glyph_plain d h = glyph_at d (nat_lt d 10) refl h
 
+either_plain : (t : Bool) (xs ys : List ℕ) → list_all is_plain xs ≡ true → list_all is_plain ys ≡ true
+    → list_all is_plain (if t then xs else ys) ≡ true
+either_plain true xs ys h k = h
+either_plain false xs ys h k = k
+
 onto_plain : (k n : ℕ) (after : List ℕ) → list_all is_plain after ≡ true
     → list_all is_plain (digits_onto k 16 false n after) ≡ true
 onto_plain zero n after h = h
 onto_plain (suc k) n after h =
     let more : list_all is_plain (digit_glyph false (n % 16) ∷ after) ≡ true =
     and_from (is_plain (digit_glyph false (n % 16))) (list_all is_plain after) (glyph_plain (n % 16) (omega arith)) h in
-    if_either (λ (xs : List ℕ). list_all is_plain xs ≡ true) (n / 16 == 0) (digit_glyph false (n % 16) ∷ after)
+    either_plain (n / 16 == 0) (digit_glyph false (n % 16) ∷ after)
     (digits_onto k 16 false (n / 16) (digit_glyph false (n % 16) ∷ after)) more
     (onto_plain k (n / 16) (digit_glyph false (n % 16) ∷ after) more)
 
@@ -128,7 +136,7 @@ from_shown : (n : ℕ) (cs : List ℕ) → scalars cs ≡ true → IsShown (show
 from_shown n [] h = nothing_shown
 from_shown n (c ∷ cs) h =
     let parts = and_parts (scalar c) (scalars cs) h in
-    if_either IsShown (nat_lt n most_shown) (shown_char c ++ shown_from (n + len_utf8 c) cs) (codes " ..")
+    either_shown (nat_lt n most_shown) (shown_char c ++ shown_from (n + len_utf8 c) cs) (codes " ..")
     (both_shown (shown_char c) (shown_from (n + len_utf8 c) cs) (char_shown c parts.0)
     (from_shown (n + len_utf8 c) cs parts.1))
     (plain_all (codes " ..") refl)
@@ -166,7 +174,7 @@ front_small n bs h i = elim (leb_tells n i) [
 
 bytes_shown : (bs : List ℕ) → ((i : ℕ) → get_or bs i 0 < 256) → IsShown (shown_bytes bs)
 bytes_shown bs h =
-    if_either IsShown (nat_le (length bs) most_shown) (flat_map shown_byte bs)
+    either_shown (nat_le (length bs) most_shown) (flat_map shown_byte bs)
     (flat_map shown_byte (take most_shown bs) ++ codes " ..") (all_shown bs h)
     (both_shown (flat_map shown_byte (take most_shown bs)) (codes " ..")
     (all_shown (take most_shown bs) (front_small most_shown bs h)) (plain_all (codes " ..") refl))

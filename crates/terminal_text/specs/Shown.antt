@@ -47,11 +47,3 @@ shown_bytes bs =
 -- a text as it is shown
 unfoldable pub shown_text : List ℕ → List ℕ
 shown_text text = if is_utf8 text then shown_from 0 (chars text) else shown_bytes text
-
--- a line, two blanks before it
-abbrev pub line_text : List ℕ → List ℕ
-line_text line = codes "  " ++ line ++ codes "\n"
-
--- a line that names a text
-abbrev pub named_text : List ℕ → List ℕ → List ℕ
-named_text name value = line_text (name ++ codes ": " ++ shown_text value)

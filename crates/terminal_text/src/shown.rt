@@ -3,13 +3,12 @@
 ghost use Rattle.std.specs.Prelude.{◌≡◌, ◌+◌, ◌<◌, ◌≤◌, ◌++◌, [], ◌∷◌, length, not, codes, decimal, OnOk};
 ghost use Rattle.std.specs.Char.{digit_char};
 ghost use Rattle.std.specs.List.{flat_map};
-ghost use Rattle.std.specs.Result.{IsOkUnless};
 ghost use Rattle.std.specs.Str.{chars};
 ghost use Rattle.terminal_text.specs.Shown.{is_shown, IsShown, most_shown, shown_char, shown_byte, shown_from};
-ghost use Rattle.terminal_text.specs.Shown.{shown_bytes, shown_text, line_text, named_text};
+ghost use Rattle.terminal_text.specs.Shown.{shown_bytes, shown_text};
 
 use itoa::Buffer;
-use money_core::Cause;
+use std::alloc::AllocError;
 
 /// About how many bytes of a text are shown.
 const MOST_SHOWN: usize = 200;
@@ -29,25 +28,21 @@ fn is_hidden(code: u32) -> bool
 }
 
 /// Appends a character, escaped where a terminal would not show it.
-fn push_char(shown: char, out: &mut Vec<u8>) -> Result<(), Cause>
+fn push_char(shown: char, out: &mut Vec<u8>) -> Result<(), AllocError>
     ensures value { OnOk result (out.new.items ≡ out.old.items ++ shown_char shown) }
-    ensures memory { IsOkUnless result Cause.OutOfMemory }
 {
     let code = shown as u32;
     if is_hidden(code) {
         let escape = format!(in *out.allocator(); "\\u{{{code:x}}}")?;
-        out.extend_from_slice(escape.as_bytes())?;
-        return Ok(());
+        return out.extend_from_slice(escape.as_bytes());
     }
     let mut bytes = [0u8; 4];
-    out.extend_from_slice(shown.encode_utf8(&mut bytes).as_bytes())?;
-    Ok(())
+    out.extend_from_slice(shown.encode_utf8(&mut bytes).as_bytes())
 }
 
 /// Appends the characters of a text, of a long one a first part.
-fn push_chars(text: &str, out: &mut Vec<u8>) -> Result<(), Cause>
+fn push_chars(text: &str, out: &mut Vec<u8>) -> Result<(), AllocError>
     ensures value { OnOk result (out.new.items ≡ out.old.items ++ shown_from 0 (chars text.now)) }
-    ensures memory { IsOkUnless result Cause.OutOfMemory }
 {
     let mut count = 0usize;
     for shown in text.chars() {
@@ -74,9 +69,8 @@ fn hex_digit(number: u8) -> u8
 }
 
 /// Appends a byte of what is no UTF-8: printable ASCII as it stands, any other escaped.
-fn push_byte(byte: u8, out: &mut Vec<u8>) -> Result<(), Cause>
+fn push_byte(byte: u8, out: &mut Vec<u8>) -> Result<(), AllocError>
     ensures value { OnOk result (out.new.items ≡ out.old.items ++ shown_byte byte) }
-    ensures memory { IsOkUnless result Cause.OutOfMemory }
 {
     if byte >= b' ' && byte < 127 {
         out.push(byte)?;
@@ -88,9 +82,8 @@ fn push_byte(byte: u8, out: &mut Vec<u8>) -> Result<(), Cause>
 }
 
 /// Appends bytes of what is no UTF-8.
-fn push_all_bytes(text: &[u8], out: &mut Vec<u8>) -> Result<(), Cause>
+fn push_all_bytes(text: &[u8], out: &mut Vec<u8>) -> Result<(), AllocError>
     ensures value { OnOk result (out.new.items ≡ out.old.items ++ flat_map shown_byte text.now) }
-    ensures memory { IsOkUnless result Cause.OutOfMemory }
 {
     for byte in text {
         push_byte(*byte, out)?;
@@ -99,26 +92,23 @@ fn push_all_bytes(text: &[u8], out: &mut Vec<u8>) -> Result<(), Cause>
 }
 
 /// Appends what is no UTF-8, of a long one a first part.
-fn push_bytes(text: &[u8], out: &mut Vec<u8>) -> Result<(), Cause>
+fn push_bytes(text: &[u8], out: &mut Vec<u8>) -> Result<(), AllocError>
     ensures value { OnOk result (out.new.items ≡ out.old.items ++ shown_bytes text.now) }
-    ensures memory { IsOkUnless result Cause.OutOfMemory }
 {
     if text.len() <= MOST_SHOWN {
         return push_all_bytes(text, out);
     }
     push_all_bytes(&text[..MOST_SHOWN], out)?;
-    out.extend_from_slice(b" ..")?;
-    Ok(())
+    out.extend_from_slice(b" ..")
 }
 
 /// Appends a text as a terminal may show it: what it would act on is escaped, and of a long text a first part is shown.
-pub fn push_shown(text: &[u8], out: &mut Vec<u8>) -> Result<(), Cause>
+pub fn push_shown(text: &[u8], out: &mut Vec<u8>) -> Result<(), AllocError>
     ensures value { OnOk result (out.new.items ≡ out.old.items ++ shown_text text.now) }
     // What is appended has nothing on which a terminal would act.
     ensures shown { IsShown (shown_text text.now) }
     // A text that has nothing of the kind is shown as itself, where it is not too long.
     ensures itself { IsShown text.now → length text.now ≤ most_shown → shown_text text.now ≡ text.now }
-    ensures memory { IsOkUnless result Cause.OutOfMemory }
 {
     match str::from_utf8(text) {
         Ok(text) => push_chars(text, out),
@@ -127,35 +117,9 @@ pub fn push_shown(text: &[u8], out: &mut Vec<u8>) -> Result<(), Cause>
 }
 
 /// Appends a number.
-pub fn push_number(number: usize, out: &mut Vec<u8>) -> Result<(), Cause>
+pub fn push_number(number: usize, out: &mut Vec<u8>) -> Result<(), AllocError>
     ensures value { OnOk result (out.new.items ≡ out.old.items ++ decimal number) }
-    ensures memory { IsOkUnless result Cause.OutOfMemory }
 {
     let mut buffer = Buffer::new();
-    out.extend_from_slice(buffer.format(number).as_bytes())?;
-    Ok(())
-}
-
-/// Appends a line, two blanks before it.
-pub fn push_line(line: &[u8], out: &mut Vec<u8>) -> Result<(), Cause>
-    ensures value { OnOk result (out.new.items ≡ out.old.items ++ line_text line.now) }
-    ensures memory { IsOkUnless result Cause.OutOfMemory }
-{
-    out.extend_from_slice(b"  ")?;
-    out.extend_from_slice(line)?;
-    out.extend_from_slice(b"\n")?;
-    Ok(())
-}
-
-/// Appends a line that names a text of a request, a journal or the books.
-pub fn push_named(name: &[u8], value: &[u8], out: &mut Vec<u8>) -> Result<(), Cause>
-    ensures value { OnOk result (out.new.items ≡ out.old.items ++ named_text name.now value.now) }
-    ensures memory { IsOkUnless result Cause.OutOfMemory }
-{
-    out.extend_from_slice(b"  ")?;
-    out.extend_from_slice(name)?;
-    out.extend_from_slice(b": ")?;
-    push_shown(value, out)?;
-    out.extend_from_slice(b"\n")?;
-    Ok(())
+    out.extend_from_slice(buffer.format(number).as_bytes())
 }

@@ -12,7 +12,7 @@ ghost use Rattle.treasury_core.specs.Choice.{choice_refusal};
 
 use book_core::{Refusal, is_inside};
 use money_core::{Cause, Copied, Items, Text};
-use std::alloc::Global;
+use std::alloc::{AllocError, Global};
 use treasury_state::{is_account_text, is_reserved_account};
 
 /// The account that gets what revenue and expense accounts held.
@@ -34,21 +34,9 @@ pub struct Choice {
 }
 
 impl Copied for Choice {
-    fn copy(&self) -> Result<Self, Cause> {
-        let accounts = match &self.accounts {
-            Some(names) => {
-                let names = names.copy()?;
-                Some(names)
-            }
-            None => None,
-        };
-        let into = match &self.into {
-            Some(account) => {
-                let account = account.copy()?;
-                Some(account)
-            }
-            None => None,
-        };
+    fn duplicate(&self) -> Result<Self, AllocError> {
+        let accounts = self.accounts.duplicate()?;
+        let into = self.into.duplicate()?;
         Ok(Choice { accounts, into })
     }
 }

@@ -1,7 +1,6 @@
 //! Commands, and what they are answered.
 
-ghost use Rattle.std.specs.Prelude.{◌≡◌, ◌↔◌, IsTrue, IfSome, IfOk};
-ghost use Rattle.std.specs.Result.{IsOkUnless};
+ghost use Rattle.std.specs.Prelude.{◌≡◌, ◌↔◌, IsTrue, IfSome};
 ghost use Rattle.std.specs.List.{AllByRecursion};
 ghost use Rattle.money_core.specs.AmountText.{IsDeclared};
 ghost use Rattle.journal_format.specs.declared.txn.Located.{Located as Found};
@@ -11,7 +10,8 @@ ghost use Rattle.treasury_core.specs.Fits.{Fits, IsDispatch, IsReceive};
 use crate::choice::Choice;
 use journal_format::{Located, is_printable};
 use journal_lines::is_day_number;
-use money_core::{Cause, Copied, Day, Items, Style, Styles, Text, Unit, is_declared, is_style};
+use money_core::{Copied, Day, Items, Style, Styles, Text, Unit, is_declared, is_style};
+use std::alloc::AllocError;
 
 /// A dispatch of money from one branch to another. Branches go by name.
 #[derive(Debug, Drop)]
@@ -155,11 +155,11 @@ impl Command {
 }
 
 impl Copied for Dispatch {
-    fn copy(&self) -> Result<Self, Cause> {
-        let id = self.id.copy()?;
-        let source = self.source.copy()?;
-        let target = self.target.copy()?;
-        let account = self.account.copy()?;
+    fn duplicate(&self) -> Result<Self, AllocError> {
+        let id = self.id.duplicate()?;
+        let source = self.source.duplicate()?;
+        let target = self.target.duplicate()?;
+        let account = self.account.duplicate()?;
         Ok(Dispatch {
             id,
             source,
@@ -173,8 +173,8 @@ impl Copied for Dispatch {
 }
 
 impl Copied for AskedPart {
-    fn copy(&self) -> Result<Self, Cause> {
-        let key = self.key.copy()?;
+    fn duplicate(&self) -> Result<Self, AllocError> {
+        let key = self.key.duplicate()?;
         Ok(AskedPart {
             key,
             unit: self.unit,
@@ -183,26 +183,12 @@ impl Copied for AskedPart {
     }
 }
 
-/// An equal part that is asked for, if there is one.
-fn copied(part: &Option<AskedPart>) -> Result<Option<AskedPart>, Cause>
-    ensures equal { IfOk result (λ copy. copy ≡ part.now) }
-    ensures memory { IsOkUnless result Cause.OutOfMemory }
-{
-    match part {
-        Some(part) => {
-            let copy = part.copy()?;
-            Ok(Some(copy))
-        }
-        None => Ok(None),
-    }
-}
-
 impl Copied for Receive {
-    fn copy(&self) -> Result<Self, Cause> {
-        let id = self.id.copy()?;
-        let branch = self.branch.copy()?;
-        let account = self.account.copy()?;
-        let part = copied(&self.part)?;
+    fn duplicate(&self) -> Result<Self, AllocError> {
+        let id = self.id.duplicate()?;
+        let branch = self.branch.duplicate()?;
+        let account = self.account.duplicate()?;
+        let part = self.part.duplicate()?;
         Ok(Receive {
             id,
             branch,
@@ -214,9 +200,9 @@ impl Copied for Receive {
 }
 
 impl Copied for Close {
-    fn copy(&self) -> Result<Self, Cause> {
-        let branch = self.branch.copy()?;
-        let choice = self.choice.copy()?;
+    fn duplicate(&self) -> Result<Self, AllocError> {
+        let branch = self.branch.duplicate()?;
+        let choice = self.choice.duplicate()?;
         Ok(Close {
             branch,
             day: self.day,
@@ -226,35 +212,35 @@ impl Copied for Close {
 }
 
 impl Copied for Command {
-    fn copy(&self) -> Result<Self, Cause> {
+    fn duplicate(&self) -> Result<Self, AllocError> {
         match self {
             Command::Branch(name) => {
-                let name = name.copy()?;
+                let name = name.duplicate()?;
                 Ok(Command::Branch(name))
             }
             Command::Commodity(style) => {
-                let style = style.copy()?;
+                let style = style.duplicate()?;
                 Ok(Command::Commodity(style))
             }
             Command::Enter(name, file) => {
-                let name = name.copy()?;
-                let file = file.copy()?;
+                let name = name.duplicate()?;
+                let file = file.duplicate()?;
                 Ok(Command::Enter(name, file))
             }
             Command::Dispatch(dispatch) => {
-                let dispatch = dispatch.copy()?;
+                let dispatch = dispatch.duplicate()?;
                 Ok(Command::Dispatch(dispatch))
             }
             Command::Receive(receive) => {
-                let receive = receive.copy()?;
+                let receive = receive.duplicate()?;
                 Ok(Command::Receive(receive))
             }
             Command::Lock(name, day) => {
-                let name = name.copy()?;
+                let name = name.duplicate()?;
                 Ok(Command::Lock(name, *day))
             }
             Command::Close(close) => {
-                let close = close.copy()?;
+                let close = close.duplicate()?;
                 Ok(Command::Close(close))
             }
         }

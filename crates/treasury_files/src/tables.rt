@@ -166,7 +166,7 @@ pub fn push_name(name: &[u8], list: &mut Vec<u8>) -> Result<(), Cause> {
     if !list.is_empty() {
         list.extend_from_slice(b", ")?;
     }
-    push_shown(name, list)
+    Ok(push_shown(name, list)?)
 }
 
 /// The names of the treasury's tables that are missing.

@@ -5,6 +5,7 @@ ghost use Rattle.std.specs.List.{flat_map};
 ghost use Rattle.treasury_messages.specs.Parts.{part_values, part_text};
 
 use money_core::Cause;
+use std::alloc::AllocError;
 use terminal_text::push_shown;
 
 /// A part of a message.
@@ -43,7 +44,7 @@ pub(crate) fn put_text(text: &[u8], parts: &mut Vec<Part>) -> Result<(), Cause>
 }
 
 /// Appends a part as a terminal may show it.
-fn push_part(part: &Part, out: &mut Vec<u8>) -> Result<(), Cause>
+fn push_part(part: &Part, out: &mut Vec<u8>) -> Result<(), AllocError>
     ensures value { OnOk result (out.new.items ≡ out.old.items ++ part_text part.now) }
 {
     match part {

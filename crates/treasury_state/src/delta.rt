@@ -4,7 +4,8 @@ ghost use Rattle.std.specs.Prelude.{◌≡◌};
 
 use crate::record::Record;
 use crate::transfer::{Part, Transfer};
-use money_core::{Cause, Copied, Day, Items, Style, Text};
+use money_core::{Copied, Day, Items, Style, Text};
+use std::alloc::AllocError;
 use std::marker::Model;
 
 /// One thing that a command adds to the state.
@@ -24,32 +25,32 @@ pub enum Addition {
 }
 
 impl Copied for Addition {
-    fn copy(&self) -> Result<Self, Cause> {
+    fn duplicate(&self) -> Result<Self, AllocError> {
         match self {
             Addition::Commodity(style) => {
-                let style = style.copy()?;
+                let style = style.duplicate()?;
                 Ok(Addition::Commodity(style))
             }
             Addition::Branch(name) => {
-                let name = name.copy()?;
+                let name = name.duplicate()?;
                 Ok(Addition::Branch(name))
             }
             Addition::Record(name, record) => {
-                let name = name.copy()?;
-                let record = record.copy()?;
+                let name = name.duplicate()?;
+                let record = record.duplicate()?;
                 Ok(Addition::Record(name, record))
             }
             Addition::Dispatched(transfer) => {
-                let transfer = transfer.copy()?;
+                let transfer = transfer.duplicate()?;
                 Ok(Addition::Dispatched(transfer))
             }
             Addition::Received(id, part) => {
-                let id = id.copy()?;
-                let part = part.copy()?;
+                let id = id.duplicate()?;
+                let part = part.duplicate()?;
                 Ok(Addition::Received(id, part))
             }
             Addition::Locked(name, day) => {
-                let name = name.copy()?;
+                let name = name.duplicate()?;
                 Ok(Addition::Locked(name, *day))
             }
         }

@@ -2,7 +2,8 @@
 
 use book_core::Entry;
 use journal_format::Txn;
-use money_core::{Cause, Copied, Text};
+use money_core::{Copied, Text};
+use std::alloc::AllocError;
 
 /// A transaction that was accepted.
 #[derive(Debug, Drop)]
@@ -16,10 +17,10 @@ pub struct Record {
 }
 
 impl Copied for Record {
-    fn copy(&self) -> Result<Self, Cause> {
-        let mark = self.mark.copy()?;
-        let txn = self.txn.copy()?;
-        let entry = self.entry.copy()?;
+    fn duplicate(&self) -> Result<Self, AllocError> {
+        let mark = self.mark.duplicate()?;
+        let txn = self.txn.duplicate()?;
+        let entry = self.entry.duplicate()?;
         Ok(Record { mark, txn, entry })
     }
 }

@@ -6,7 +6,7 @@ ghost use Rattle.treasury_state.specs.Transfer.{is_all, sum_of_parts, rest_part,
 ghost use Rattle.treasury_state.specs.Good.{HasGoodParts};
 
 use money_core::{Cause, Copied, Day, Items, Text, Unit};
-use std::alloc::Global;
+use std::alloc::{AllocError, Global};
 
 /// A receipt of a part of a transfer, or of all that is left, under its key.
 #[derive(Debug, Drop)]
@@ -96,9 +96,9 @@ pub fn rest_part(alloc: Global, transfer: &Transfer, receipt: &Receipt) -> Resul
 }
 
 impl Copied for Part {
-    fn copy(&self) -> Result<Self, Cause> {
-        let key = self.key.copy()?;
-        let payee = self.payee.copy()?;
+    fn duplicate(&self) -> Result<Self, AllocError> {
+        let key = self.key.duplicate()?;
+        let payee = self.payee.duplicate()?;
         Ok(Part {
             key,
             qty: self.qty,
@@ -109,8 +109,8 @@ impl Copied for Part {
 }
 
 impl Copied for Receipt {
-    fn copy(&self) -> Result<Self, Cause> {
-        let payee = self.payee.copy()?;
+    fn duplicate(&self) -> Result<Self, AllocError> {
+        let payee = self.payee.duplicate()?;
         Ok(Receipt {
             day: self.day,
             payee,
@@ -118,28 +118,14 @@ impl Copied for Receipt {
     }
 }
 
-/// An equal receipt, if there is one.
-fn copied(receipt: &Option<Receipt>) -> Result<Option<Receipt>, Cause>
-    ensures equal { IfOk result (λ copy. copy ≡ receipt.now) }
-    ensures memory { IsOkUnless result Cause.OutOfMemory }
-{
-    match receipt {
-        Some(receipt) => {
-            let copy = receipt.copy()?;
-            Ok(Some(copy))
-        }
-        None => Ok(None),
-    }
-}
-
 impl Copied for Transfer {
-    fn copy(&self) -> Result<Self, Cause> {
-        let id = self.id.copy()?;
-        let source = self.source.copy()?;
-        let target = self.target.copy()?;
-        let payer = self.payer.copy()?;
-        let parts = self.parts.copy()?;
-        let receipt = copied(&self.receipt)?;
+    fn duplicate(&self) -> Result<Self, AllocError> {
+        let id = self.id.duplicate()?;
+        let source = self.source.duplicate()?;
+        let target = self.target.duplicate()?;
+        let payer = self.payer.duplicate()?;
+        let parts = self.parts.duplicate()?;
+        let receipt = self.receipt.duplicate()?;
         Ok(Transfer {
             id,
             source,

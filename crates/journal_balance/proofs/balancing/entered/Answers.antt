@@ -34,16 +34,16 @@ postings-preserved c =
     length-append c.postings.legs mine in omega (arith, h) in
     record {
       legs =
-          ap (λ (xs : List Leg). xs ++ rest) c.in_ok-push_posting.ensures.ok
+          ap (λ (xs : List Leg). xs ++ rest) c.in_ok-push_posting.ensures
           ∙ append_assoc c.postings.legs mine rest
           ∙ ap (λ (xs : List Leg). c.postings.legs ++ xs)
           (sym (legs_among-drop s ps ps i p c.postings-test.true c.posting-item.is))
           ∙ c.postings.invariant.legs;
       claims =
           ap (λ (n : ℕ). c.push_claim.new.claims ++ claims_among s ps n (drop (i + 1) ps))
-          (ap (λ (xs : List Leg). length xs + 1) c.in_ok-push_posting.ensures.ok ∙ count)
+          (ap (λ (xs : List Leg). length xs + 1) c.in_ok-push_posting.ensures ∙ count)
           ∙ ap (λ (xs : List Placed). xs ++ after)
-          (c.in_ok-push_claim.ensures.ok ∙ ap
+          (c.in_ok-push_claim.ensures ∙ ap
           (λ (ys : List Leg). c.postings.claims ++ placed (length ys + 1) p.claim) c.items.ensures)
           ∙ append_assoc c.postings.claims (placed (length c.postings.legs + 1) p.claim) after
           ∙ ap (λ (xs : List Placed). c.postings.claims ++ xs)

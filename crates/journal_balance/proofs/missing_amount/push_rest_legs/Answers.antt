@@ -34,7 +34,7 @@ loop-number-preserved c =
       room = small_behind f n m within c.loop-number.invariant.room;
       so_far =
           ap (λ (xs : List Leg). xs ++ rest)
-          (c.in_ok-push_rest.ensures.ok ∙ ap
+          (c.in_ok-push_rest.ensures ∙ ap
           (λ (z : ℤ). c.loop-number.legs ++ rest_leg c.args.account.now (record { 0 = n }) z) sums)
           ∙ append_assoc c.loop-number.legs (f (record { 0 = n })) rest
           ∙ ap (λ (xs : List Leg). c.loop-number.legs ++ xs) (sym (legs_next f n m within))

@@ -5,8 +5,8 @@ use Rattle.json_text.proofs.GrowLemmas.{grows_as}
 use Rattle.json_text.proofs.LineLemmas.{nothing_left, line_left}
 use Rattle.json_text.proofs.array.grow_all_lines.Goals as goal
 
-pub returns-in-Err : goal.returns-in-Err
-returns-in-Err c =
+pub returns-in_err-grow_next : goal.returns-in_err-grow_next
+returns-in_err-grow_next c =
     let rest = c.lines.rest.now in
     let end = c.first_place-end.result in
     let done = c.lines.invariant.done in
@@ -14,7 +14,7 @@ returns-in-Err c =
     let all = c.lines.invariant.all ∙ ap (λ (l : List (List ℕ)). done ++ l) next in
     grows_as _ _ _ _ _ (ap (with_commas quoted) (sym all))
     (commas_failed quoted done (take end rest) c.lines.first c.args.out.now c.lines.out c.grow_next.new.out
-    (lines_of (drop (end + 1) rest)) c.in-Err.error c.lines.invariant.first c.lines.invariant.grown c.in-Err.ensures)
+    (lines_of (drop (end + 1) rest)) _ c.lines.invariant.first c.lines.invariant.grown c.in_err-grow_next.ensures)
 
 pub lines-preserved : goal.lines-preserved
 lines-preserved c =
@@ -30,7 +30,7 @@ lines-preserved c =
           ∙ sym (append_assoc done (line ∷ []) (lines_of c.behind_line-rest.result.now));
       first = none_is_first done line;
       grown = commas_next quoted done line c.lines.first c.args.out.now c.lines.out c.grow_next.new.out
-          c.lines.invariant.first c.lines.invariant.grown c.in-Ok.ensures;
+          c.lines.invariant.first c.lines.invariant.grown c.in_ok-grow_next.ensures;
     }
 
 pub returns : goal.returns

@@ -6,11 +6,11 @@ use Rattle.json_text.proofs.CommaLemmas.{commas_failed, cut_here}
 use Rattle.json_text.proofs.GrowLemmas.{grows_as}
 use Rattle.json_text.proofs.object.grow_members.Goals as goal
 
-pub returns-in-Err : goal.returns-in-Err
-returns-in-Err c =
+pub returns-in_err-grow_next : goal.returns-in_err-grow_next
+returns-in_err-grow_next c =
     let members = c.args.members.now in
     let i = c.members.member-index in
     let written = λ (m : Member). member_text (member_of m) in
     grows_as _ _ _ _ _ (ap (with_commas written) (cut_here members i _ c.members-test.true))
     (commas_failed written (take i members) _ c.members.first c.args.out.now c.members.out c.grow_next.new.out
-    (drop (i + 1) members) c.in-Err.error c.members.invariant.first c.members.invariant.grown c.in-Err.ensures)
+    (drop (i + 1) members) _ c.members.invariant.first c.members.invariant.grown c.in_err-grow_next.ensures)

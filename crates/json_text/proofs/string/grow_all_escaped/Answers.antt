@@ -5,9 +5,9 @@ use Rattle.json_text.proofs.string.grow_all_escaped.Goals as goal
 pub bytes-preserved : goal.bytes-preserved
 bytes-preserved c =
     grows_next escaped c.args.text.now c.bytes.byte-index 0 c.args.out.now c.bytes.out c.grow_escaped.new.out
-    c.bytes-test.true c.bytes.invariant c.in-Ok.ensures
+    c.bytes-test.true c.bytes.invariant c.in_ok-grow_escaped.ensures
 
-pub returns-in-Err : goal.returns-in-Err
-returns-in-Err c =
+pub returns-in_err-grow_escaped : goal.returns-in_err-grow_escaped
+returns-in_err-grow_escaped c =
     grows_failed escaped c.args.text.now c.bytes.byte-index 0 c.args.out.now c.bytes.out c.grow_escaped.new.out
-    c.in-Err.error c.bytes-test.true c.bytes.invariant c.in-Err.ensures
+    _ c.bytes-test.true c.bytes.invariant c.in_err-grow_escaped.ensures

@@ -1,8 +1,9 @@
-use Rattle.std.proofs.Common.{◌≡◌, sym, refl, Some, None, Err}
+use Rattle.std.proofs.Common.{◌≡◌, ap, inl, sym, refl, Some, None, Ok, Err}
 use Rattle.money_core.specs.declared.cause.Cause.TheVariants.{Amount}
 use Rattle.money_core.specs.Sampling.{style_of}
 use Rattle.money_core.specs.Views.{spelled_view}
-use Rattle.money_core.proofs.SampleLemmas.{found_utf8, found_ok, found_declarable, found_only, found_answer, found_none}
+use Rattle.money_core.specs.declared.style.Style.{Style}
+use Rattle.money_core.proofs.SampleLemmas.{found_utf8, found_ok, found_declarable, found_only, found_none, only_memory}
 use Rattle.money_core.proofs.SampleLemmas.{lacks_all, lacks_answer, lacks_none}
 use Rattle.money_core.proofs.sample.read_style.Goals as goal
 use Rattle.money_core.proofs.sample.read_style.Goals.{In-Some, In-None}
@@ -17,30 +18,31 @@ lacks c = sym (rw (c.in-None.is, c.amount_parts.ensures, c.as_bytes.ensures.valu
 pub copied-requires : goal.copied-requires
 copied-requires c = found_utf8 c.args.text.now (spelled_view c.in-Some.spelled) (found c)
 
-pub returns-in-Some-clause-ok : goal.returns-in-Some-clause-ok
-returns-in-Some-clause-ok c = found_ok c.args.text.now (spelled_view c.in-Some.spelled)
-    (found (goal.at.returns-in-Some-clause-ok c).In-Some) c.copied.result c.copied.ensures.equal
+pub returns-in_ok-copied-in-Some-clause-ok : goal.returns-in_ok-copied-in-Some-clause-ok
+returns-in_ok-copied-in-Some-clause-ok c =
+    found_ok c.args.text.now (spelled_view c.in-Some.spelled)
+    (found (goal.at.returns-in_ok-copied-in-Some-clause-ok c).In-Some) _ c.in_ok-copied-in-Some.ensures
 
-pub returns-in-Some-clause-declarable : goal.returns-in-Some-clause-declarable
-returns-in-Some-clause-declarable c =
+pub returns-in_ok-copied-in-Some-clause-declarable : goal.returns-in_ok-copied-in-Some-clause-declarable
+returns-in_ok-copied-in-Some-clause-declarable c =
     found_declarable c.args.text.now (spelled_view c.in-Some.spelled)
-    (found (goal.at.returns-in-Some-clause-declarable c).In-Some) c.copied.result c.copied.ensures.equal
+    (found (goal.at.returns-in_ok-copied-in-Some-clause-declarable c).In-Some) _ c.in_ok-copied-in-Some.ensures
 
-pub returns-in-Some-clause-only : goal.returns-in-Some-clause-only
-returns-in-Some-clause-only c =
-    found_only c.args.text.now (spelled_view c.in-Some.spelled) (found (goal.at.returns-in-Some-clause-only c).In-Some)
-    c.copied.result c.copied.ensures.equal c.copied.ensures.memory
+pub returns-in_ok-copied-in-Some-clause-only : goal.returns-in_ok-copied-in-Some-clause-only
+returns-in_ok-copied-in-Some-clause-only c = λ style h. inl (ap (λ (s : Style). Ok s)
+    (found_only c.args.text.now (spelled_view c.in-Some.spelled)
+    (found (goal.at.returns-in_ok-copied-in-Some-clause-only c).In-Some) _ c.in_ok-copied-in-Some.ensures style h))
 
-pub returns-in-Some-clause-answer : goal.returns-in-Some-clause-answer
-returns-in-Some-clause-answer c =
-    found_answer c.args.text.now (spelled_view c.in-Some.spelled)
-    (found (goal.at.returns-in-Some-clause-answer c).In-Some) c.copied.result c.copied.ensures.equal
-    c.copied.ensures.memory
+pub returns-in_ok-copied-in-Some-clause-none : goal.returns-in_ok-copied-in-Some-clause-none
+returns-in_ok-copied-in-Some-clause-none c =
+    found_none c.args.text.now (spelled_view c.in-Some.spelled)
+    (found (goal.at.returns-in_ok-copied-in-Some-clause-none c).In-Some) _ (λ e. cc)
 
-pub returns-in-Some-clause-none : goal.returns-in-Some-clause-none
-returns-in-Some-clause-none c =
-    found_none c.args.text.now (spelled_view c.in-Some.spelled) (found (goal.at.returns-in-Some-clause-none c).In-Some)
-    c.copied.result c.copied.ensures.memory
+pub returns-in_err-copied-in-Some-clause-none : goal.returns-in_err-copied-in-Some-clause-none
+returns-in_err-copied-in-Some-clause-none c =
+    found_none c.args.text.now (spelled_view c.in-Some.spelled)
+    (found (goal.at.returns-in_err-copied-in-Some-clause-none c).In-Some) _
+    (only_memory c.from_residual.result c.from_residual.ensures.1)
 
 pub returns-in-None-clause-only : goal.returns-in-None-clause-only
 returns-in-None-clause-only c = λ style h. absurd (lacks_all c.args.text.now (lacks c) style h)
