@@ -4,7 +4,8 @@ use Rattle.std.proofs.Common.{length-append, append-nil, subst, OnOk, OnErr, ◌
 use Rattle.std.specs.List.{flat_map}
 use Rattle.std.proofs.lemmas.List.{take_more, flat_map_more, take-append-drop}
 use Rattle.std.proofs.lemmas.Grind.{flat_map-append}
-use Rattle.std.specs.Prelude.{Result, Ok, Err}
+use Rattle.std.proofs.lemmas.Result.{err_from_is_err_and}
+use Rattle.std.specs.Prelude.{Result, Ok, Err, IsErrAnd}
 use Rattle.std.specs.declared.alloc.AllocError.{AllocError}
 use Rattle.money_core.proofs.Appends.{kept_behind}
 use Rattle.money_core.proofs.PrintedLemmas.{appended_twice}
@@ -63,6 +64,14 @@ grows_stop a b old new e failed = record {
 pub grows_as : (a b : List ℕ) (old new : Vec ℕ Global) (r : Ending) → a ≡ b → AppendsText a old new r
     → AppendsText b old new r
 grows_as a b old new r same grown = subst (λ (t : List ℕ). AppendsText t old new r) same grown
+
+-- the same where the refusal came through a `?`
+pub grows_refused : (text : List ℕ) (old new : Vec ℕ Global) (r : Ending) (e : AllocError) → IsErrAnd r (λ x. x ≡ e)
+    → AppendsText text old new (Err e) → AppendsText text old new r
+grows_refused text old new r e refused grown =
+    let p = err_from_is_err_and r refused in
+    subst (λ (x : Ending). AppendsText text old new x) (sym p.1)
+    (subst (λ (x : AllocError). AppendsText text old new (Err x)) (sym p.2) grown)
 
 -- a second call after one that appended its part, and failed, whatever was to come after it
 pub grows_stop_then : (a b rest : List ℕ) (old mid new : Vec ℕ Global) (e : AllocError)
