@@ -4,5 +4,5 @@ use Rattle.journal_format.proofs.printing.print_txn.Goals as goal
 pub returns-then-is_err-clause-again : goal.returns-then-is_err-clause-again
 returns-then-is_err-clause-again c = reads_back c.args.styles.now c.are_styles.ensures c.args.txn.now c.requires
 
-pub returns-else-is_err-clause-again : goal.returns-else-is_err-clause-again
-returns-else-is_err-clause-again c = reads_back c.args.styles.now c.are_styles.ensures c.args.txn.now c.requires
+pub returns-clause-again : goal.returns-clause-again
+returns-clause-again c = reads_back c.args.styles.now c.are_styles.ensures c.args.txn.now c.requires
